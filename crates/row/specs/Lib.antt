@@ -1,0 +1,11 @@
+pub mod Lists
+pub mod Board
+pub mod Commands
+pub mod Theory
+pub mod Week
+pub mod Columns
+pub mod Layout
+pub mod Lookup
+pub mod Moves
+pub mod Telling
+pub mod Meaning

@@ -1,0 +1,34 @@
+// A row of cards in lent memory, links that say which card has to stand before which, and what is proved of them.
+mod board;
+mod cards;
+mod column;
+mod layout;
+mod lookup;
+mod telling;
+mod theory;
+
+pub use board::Command;
+pub use board::Link;
+pub use board::Refusal;
+pub use cards::comes;
+pub use cards::goes;
+pub use cards::len;
+pub use cards::place_of;
+pub use column::Column;
+pub use layout::CARDS;
+pub use layout::TALLY;
+pub use lookup::find;
+pub use telling::tell;
+pub use theory::can_be_firm_stands;
+pub use theory::can_be_stands;
+pub use theory::firm_is_little_stands;
+pub use theory::leads_before_stands;
+pub use theory::leads_just_stands;
+pub use theory::leads_on_stands;
+pub use theory::little_is_loose_stands;
+pub use theory::only_between_stands;
+pub use theory::only_one_stands;
+pub use theory::only_touched_stands;
+pub use theory::round_there_stands;
+pub use theory::stays_fine_stands;
+pub use theory::week_stands;
