@@ -55,16 +55,16 @@ holder-here p x s xs e = rw (eq-eqb x s e)
 holder-on : (p x s : ℕ) (xs : List ℕ) → (x ≡ s → ⊥) → holder p (x ∷ xs) s ≡ holder (8192 + x) xs s
 holder-on p x s xs e = rw (ne-eqb x s e)
 
-has-head : (x : ℕ) (xs : List ℕ) → has (x ∷ xs) x ≡ true
+pub has-head : (x : ℕ) (xs : List ℕ) → has (x ∷ xs) x ≡ true
 unfolding any
 has-head x xs = let i = eq-eqb x x refl in grind arith
 
-has-tail : (x : ℕ) (xs : List ℕ) (t : ℕ) → has xs t ≡ true → has (x ∷ xs) t ≡ true
+pub has-tail : (x : ℕ) (xs : List ℕ) (t : ℕ) → has xs t ≡ true → has (x ∷ xs) t ≡ true
 unfolding any
 has-tail x xs t h = or-right (eqb t x) _ h
 
 -- a pointer of no slot of the chain, and not its first, holds none of it
-holder-apart : (xs : List ℕ) (a s p : ℕ) → (a ≡ p → ⊥) → Free p xs → holder a xs s ≡ p → ⊥
+pub holder-apart : (xs : List ℕ) (a s p : ℕ) → (a ≡ p → ⊥) → Free p xs → holder a xs s ≡ p → ⊥
 holder-apart [] a s p n f e = n e
 holder-apart (x ∷ xs) a s p n f e = elim (cases-eq x s) [
   | inl i ↦ n (sym (holder-here a x s xs i) ∙ e)
@@ -87,11 +87,11 @@ distinct-tail : (x : ℕ) (xs : List ℕ) → distinct (x ∷ xs) ≡ true → d
 unfolding distinct
 distinct-tail x xs d = and-parts (not (has xs x)) (distinct xs) d .1
 
-has-on : (x s : ℕ) (xs : List ℕ) → (x ≡ s → ⊥) → has (x ∷ xs) s ≡ true → has xs s ≡ true
+pub has-on : (x s : ℕ) (xs : List ℕ) → (x ≡ s → ⊥) → has (x ∷ xs) s ≡ true → has xs s ≡ true
 unfolding any
 has-on x s xs n h = grind (arith, tells)
 
-has-at : (xs : List ℕ) (s t : ℕ) → s ≡ t → has xs s ≡ true → has xs t ≡ true
+pub has-at : (xs : List ℕ) (s t : ℕ) → s ≡ t → has xs s ≡ true → has xs t ≡ true
 has-at xs s t e h = rw e at h
 
 module _ (next next′ : ℕ → ℕ) where

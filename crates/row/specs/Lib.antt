@@ -3,9 +3,11 @@ pub mod Board
 pub mod Commands
 pub mod Theory
 pub mod Week
+pub mod Renaming
 pub mod Columns
 pub mod Layout
 pub mod Lookup
 pub mod Moves
 pub mod Telling
 pub mod Meaning
+pub mod Laws

@@ -29,6 +29,7 @@ pub use theory::little_is_loose_stands;
 pub use theory::only_between_stands;
 pub use theory::only_one_stands;
 pub use theory::only_touched_stands;
+pub use theory::renames_stands;
 pub use theory::round_there_stands;
 pub use theory::stays_fine_stands;
 pub use theory::week_stands;

@@ -1,6 +1,7 @@
 // What is proved of boards and commands: a function for each statement, whose contract it is.
 ghost use Rattle.row.specs.Theory.{Can-be, Can-be-firm, Only-one, Firm-is-little, Leads-on, Leads-before, Leads-just};
 ghost use Rattle.row.specs.Theory.{Round-there, Only-between, Only-touched, Stays-fine, Little-is-loose};
+ghost use Rattle.row.specs.Renaming.{Renames};
 ghost use Rattle.row.specs.Week.{Week};
 
 // A link that is not refused can be kept.
@@ -83,6 +84,13 @@ pub fn stays_fine_stands() -> u8
 // An example: little alone does not say what row it has to be.
 pub fn little_is_loose_stands() -> u8
     ensures { λ _. ⌜ Little-is-loose ⌝ }
+{
+    0
+}
+
+// A board with other names for its cards is the same board.
+pub fn renames_stands() -> u8
+    ensures { λ _. ⌜ Renames ⌝ }
 {
     0
 }
