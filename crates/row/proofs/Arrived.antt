@@ -149,10 +149,11 @@ module _ (m : List ℕ) (k : ℕ) (S : Stands m) (room : count m < 8192) where
   anew h =
       let e = slot-anew m n h in
       let t = taken-anew m n h in
-      let l = S .long in
-      (e,
-      ap (λ (x : List ℕ). cell x slots n) t ∙ cell-apart (written m slots n n) tally slots 1 n (n + 1) refl ∙ cell-same m slots n n room (omega arith) ∙ sym e,
-      ap fresh t ∙ cell-same (written m slots n n) tally 1 (n + 1) (omega arith) (omega (arith, length-written m slots n n)) ∙ add-one n)
+      let l = S .long in (
+        e,
+        ap (λ (x : List ℕ). cell x slots n) t ∙ cell-apart (written m slots n n) tally slots 1 n (n + 1) refl ∙ cell-same m slots n n room (omega arith) ∙ sym e,
+        ap fresh t ∙ cell-same (written m slots n n) tally 1 (n + 1) (omega arith) (omega (arith, length-written m slots n n)) ∙ add-one n,
+      )
 
   pub slot-below : slot-for m n < 8192
   slot-below = elim (cases-lt n (fresh m)) [
@@ -182,5 +183,5 @@ module _ (m : List ℕ) (k : ℕ) (S : Stands m) (room : count m < 8192) where
         slot-here = slot-kept m n k l room b n ∙ slot-here;
         slot-else = slot-else m n k l room b;
         place-here = place-here m n k l room b;
-        place-else = place-else m n k l room b
+        place-else = place-else m n k l room b;
       }

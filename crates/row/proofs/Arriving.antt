@@ -118,23 +118,23 @@ module _ (n f f′ s k : ℕ) (id next slot place id′ next′ slot′ place′
       | inr e ↦ rw (ne-eqb b (bucket k) e) (C .once b l)
     ];
     holds = λ b t l.
-      let h = C .holds b t l in
-      let u = used-is t in
-      elim (cases-eq t s) [
-        | inl e ↦
-            let i : id′ t ≡ k = ap id′ e ∙ A .id-here in
-            let a : has (C .of b) t ≡ false = rw e (absent b l) in
-            rw (u, eq-eqb t s e, i) (elim (cases-eq b (bucket k)) [
-              | inl j ↦ rw (eq-eqb b (bucket k) j, eq-eqb t s e, eq-eqb (bucket k) b (sym j))
-              | inr j ↦ rw (ne-eqb b (bucket k) j, a, ne-eqb (bucket k) b (λ z. j (sym z)))
-            ])
-        | inr e ↦
-            let i : id′ t ≡ id t = A .id-else t e in
-            rw (u, ne-eqb t s e, i) (elim (cases-eq b (bucket k)) [
-              | inl j ↦ rw (eq-eqb b (bucket k) j, ne-eqb t s e) h
-              | inr j ↦ rw (ne-eqb b (bucket k) j) h
-            ])
-      ]
+        let h = C .holds b t l in
+        let u = used-is t in
+        elim (cases-eq t s) [
+          | inl e ↦
+              let i : id′ t ≡ k = ap id′ e ∙ A .id-here in
+              let a : has (C .of b) t ≡ false = rw e (absent b l) in
+              rw (u, eq-eqb t s e, i) (elim (cases-eq b (bucket k)) [
+                | inl j ↦ rw (eq-eqb b (bucket k) j, eq-eqb t s e, eq-eqb (bucket k) b (sym j))
+                | inr j ↦ rw (ne-eqb b (bucket k) j, a, ne-eqb (bucket k) b (λ z. j (sym z)))
+              ])
+          | inr e ↦
+              let i : id′ t ≡ id t = A .id-else t e in
+              rw (u, ne-eqb t s e, i) (elim (cases-eq b (bucket k)) [
+                | inl j ↦ rw (eq-eqb b (bucket k) j, ne-eqb t s e) h
+                | inr j ↦ rw (ne-eqb b (bucket k) j) h
+              ])
+        ];
   }
 
   pub arrived-standing : Standing (suc n) f′ id′ next′ slot′ place′
@@ -169,5 +169,5 @@ module _ (n f f′ s k : ℕ) (id next slot place id′ next′ slot′ place′
         | inr j ↦ S .one-slot t u (sym (used-else t i) ∙ p) (sym (used-else u j) ∙ q) (sym (A .id-else t i) ∙ e ∙ A .id-else u j)
       ]
     ];
-    chains = arrived-chains
+    chains = arrived-chains;
   }

@@ -37,7 +37,7 @@ few-below zero [] d h = omega arith
 few-below zero (x ∷ xs) d h = absurd (let i = h x (let e = eq-eqb x x refl in grind arith) in omega arith)
 few-below (suc n) xs d h =
     let ih = few-below n (without n xs) (distinct-filter _ xs d)
-        (λ k e. let p = has-filter (λ j. not (eqb j n)) xs k in let i = h k in grind (arith, tells)) in
+    (λ k e. let p = has-filter (λ j. not (eqb j n)) xs k in let i = h k in grind (arith, tells)) in
     omega (arith, length-without n xs d)
 
 -- p is no pointer of the slots xs
@@ -122,8 +122,9 @@ module _ (next next′ : ℕ → ℕ) where
         (λ t j. o (8192 + t) (λ z. f t (has-tail x xs t j) (sym (z ∙ q)))))
     | inr i ↦
         let q = holder-on p x s xs i in
-        subst (Spells next′ p) (sym (without-tail x s xs i))
-        (o p (λ z. holder-apart xs (8192 + x) s p (λ j. f x (has-head x xs) (sym j)) (λ t j. f t (has-tail x xs t j)) (sym (z ∙ q))) ∙ w .0,
-        spells-withdrawn xs (8192 + x) s (w .1) (distinct-tail x xs d) (has-on x s xs i h)
-        (λ t j z. both-ways (has xs x) (not-again x xs d) (has-at xs t x (omega arith) j)) (ap next′ (sym q) ∙ e) (λ r n. o r (λ z. n (z ∙ q))))
+        subst (Spells next′ p) (sym (without-tail x s xs i)) (
+          o p (λ z. holder-apart xs (8192 + x) s p (λ j. f x (has-head x xs) (sym j)) (λ t j. f t (has-tail x xs t j)) (sym (z ∙ q))) ∙ w .0,
+          spells-withdrawn xs (8192 + x) s (w .1) (distinct-tail x xs d) (has-on x s xs i h)
+              (λ t j z. both-ways (has xs x) (not-again x xs d) (has-at xs t x (omega arith) j)) (ap next′ (sym q) ∙ e) (λ r n. o r (λ z. n (z ∙ q))),
+        )
   ]

@@ -49,7 +49,7 @@ module _ (m : List ℕ) (s : ℕ) where
     end : q + (last m - q) ≡ c
     end = omega arith
 
-    closed-count : count (closed m s) ≡ c
+    pub closed-count : count (closed m s) ≡ c
     unfolding closed
     closed-count =
         cell-same _ tally 0 (last m) (omega arith)
@@ -92,38 +92,38 @@ module _ (m : List ℕ) (S : Stands m) where
   chain-below b t l h = used-below t (and-parts _ _ (sym (S .stands .chains .holds b t l) ∙ h) .0)
 
   module _ (s : ℕ) (u : used m s ≡ true) where
-    abbrev h : ℕ
+    abbrev pub h : ℕ
     h = holder (bucket (cell m ids s)) (S .stands .chains .of (bucket (cell m ids s))) s
 
-    abbrev w : List ℕ
+    abbrev pub w : List ℕ
     w = withdrawn m (entry h s)
 
     abbrev c : ℕ
     c = count m - 1
 
-    w-apart : (d : Column) (j : ℕ) → apart chain d ≡ true → cell w d j ≡ cell m d j
+    pub w-apart : (d : Column) (j : ℕ) → apart chain d ≡ true → cell w d j ≡ cell m d j
     unfolding withdrawn
     w-apart d j a = cell-apart m chain d h j _ a
 
-    long-w : 41240 ≤ length w
+    pub long-w : 41240 ≤ length w
     unfolding withdrawn
     long-w = omega (arith, length-written m chain h (cell m chain (8192 + s)), S .long)
 
     place-w : cell w places s ≡ cell m places s
     place-w = w-apart places s refl
 
-    facts : (0 < count m) × (cell m places s ≤ c) × (c < 8192)
+    pub facts : (0 < count m) × (cell m places s ≤ c) × (c < 8192)
     facts =
         let p = ltb-true (cell m places s) (count m) (and-parts (ltb s (fresh m)) (ltb (cell m places s) (count m)) u .1) in
         let a = S .stands .few in
         let r = S .stands .room in
         (omega arith, omega arith, omega arith)
 
-    last-w : last w ≡ c
+    pub last-w : last w ≡ c
     unfolding last
     last-w = let e = w-apart tally 0 refl in let f = facts in omega arith
 
-    q≤ : cell w places s ≤ c
+    pub q≤ : cell w places s ≤ c
     q≤ = omega (arith, place-w, facts .1)
 
     slots-w : (p : ℕ) → cell w slots p ≡ cell m slots p
@@ -143,7 +143,7 @@ module _ (m : List ℕ) (S : Stands m) where
         let room = S .stands .room in
         let pos = facts .0 in
         let hb = holder-below (S .stands .chains .of (bucket (cell m ids s))) (bucket (cell m ids s)) s (let b = bucket-below (cell m ids s) in omega arith)
-            (λ t i. chain-below (bucket (cell m ids s)) t (bucket-below (cell m ids s)) i) in
+        (λ t i. chain-below (bucket (cell m ids s)) t (bucket-below (cell m ids s)) i) in
         let en = end w s c long-w last-w q≤ c< s< in
         record {
           id-same = λ t. closed-apart w s ids t refl refl refl ∙ w-apart ids t refl;
@@ -169,5 +169,5 @@ module _ (m : List ℕ) (S : Stands m) where
               (λ i x y z. omega (arith, apart-slots (suc i) (suc p) (omega (arith, en)) (omega arith) (sym (slots-w (suc i)) ∙ z ∙ slots-w (suc p))));
           place-else = λ t n o.
               place-else w s c long-w last-w q≤ c< s< t n
-              ∙ shifted-places _ w (cell w places s) t (λ j x y z. o j (omega (arith, place-w)) (omega (arith, en)) (sym (slots-w (suc j)) ∙ z)) ∙ w-apart places t refl
+              ∙ shifted-places _ w (cell w places s) t (λ j x y z. o j (omega (arith, place-w)) (omega (arith, en)) (sym (slots-w (suc j)) ∙ z)) ∙ w-apart places t refl;
         }

@@ -60,7 +60,7 @@ module _ (m : List ℕ) (k : ℕ) (S : Stands m) (n : has (cards m) k ≡ false)
     long = omega (arith, length-arrived m (count m) k, S .long);
     stands =
         subst (λ (x : ℕ). Standing x (fresh m′) (cell m′ ids) (cell m′ chain) (cell m′ slots) (cell m′ places)) (sym one-more)
-        (arrived-standing (count m) (fresh m) (fresh m′) s k _ _ _ _ _ _ _ _ (S .stands) room (took m k S room) A new)
+        (arrived-standing (count m) (fresh m) (fresh m′) s k _ _ _ _ _ _ _ _ (S .stands) room (took m k S room) A new);
   }
 
   -- a list by place, of which the last is new
@@ -80,8 +80,8 @@ module _ (m : List ℕ) (k : ℕ) (S : Stands m) (n : has (cards m) k ≡ false)
       ap (cell m′ ids) (same-slot p h)
       ∙ A .id-else (cell m slots p) (λ z. both-ways (used m s) (unused) (ap (used m) (sym z) ∙ slot-used m S p h))
     where
-    unused : used m s ≡ false
-    unused = free (count m) (fresh m) (fresh m′) s k _ _ _ _ _ _ _ _ (S .stands) room (took m k S room) A new
+      unused : used m s ≡ false
+      unused = free (count m) (fresh m) (fresh m′) s k _ _ _ _ _ _ _ _ (S .stands) room (took m k S room) A new
 
   pub came-law : Came m k s m′
   came-law = record {
@@ -89,16 +89,18 @@ module _ (m : List ℕ) (k : ℕ) (S : Stands m) (n : has (cards m) k ≡ false)
     cards-are = pushed _ _ k same-card (ap (cell m′ ids) (A .slot-here) ∙ A .id-here);
     slots-are = pushed _ _ s same-slot (A .slot-here);
     is-card = A .id-here;
-    was-free = free (count m) (fresh m) (fresh m′) s k _ _ _ _ _ _ _ _ (S .stands) room (took m k S room) A new
+    was-free = free (count m) (fresh m) (fresh m′) s k _ _ _ _ _ _ _ _ (S .stands) room (took m k S room) A new;
   }
 
 pub comes-appends : Comes-appends
 comes-appends m k S = (
-    (λ h. let w = card-slot m S k h in came-exists m k (w .0) (ap (found m) (sym (w .2)) ∙ found-there m S (w .0) (w .1))),
-    (λ n l. came-full m k (found-absent m S k n) (omega (arith, length-cards m S))),
-    (λ n l.
+  (λ h. let w = card-slot m S k h in came-exists m k (w .0) (ap (found m) (sym (w .2)) ∙ found-there m S (w .0) (w .1))),
+  (λ n l. came-full m k (found-absent m S k n) (omega (arith, length-cards m S))),
+  (λ n l.
       let r : count m < 8192 = omega (arith, length-cards m S) in
-      let e = came-in m k (found-absent m S k n) r in
-      (slot-for m (count m), ap (λ (o : Outcome). o .answer) e,
-      subst (λ (o : Outcome). Came m k (slot-for m (count m)) (o .memory)) (sym e) (came-law m k S n r))),
-  )
+      let e = came-in m k (found-absent m S k n) r in (
+        slot-for m (count m),
+        ap (λ (o : Outcome). o .answer) e,
+        subst (λ (o : Outcome). Came m k (slot-for m (count m)) (o .memory)) (sym e) (came-law m k S n r),
+      )),
+)

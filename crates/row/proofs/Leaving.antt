@@ -28,13 +28,13 @@ pub record Leaves (c q s h : ℕ) (id next slot place id′ next′ slot′ plac
   pub place-moved : (p : ℕ) → q ≤ p → p < c → place′ (slot (suc p)) ≡ p
   pub place-else : (t : ℕ) → (t ≡ s → ⊥) → ((p : ℕ) → q ≤ p → p < c → slot (suc p) ≡ t → ⊥) → place′ t ≡ place t
 
-module _ (c f s : ℕ) (id next slot place id′ next′ slot′ place′ : ℕ → ℕ) (S : Standing (suc c) f id next slot place) (live : in-use (suc c) f place s ≡ true)
+module _ (n c f s : ℕ) (id next slot place id′ next′ slot′ place′ : ℕ → ℕ) (one : n ≡ suc c) (S : Standing n f id next slot place) (live : in-use n f place s ≡ true)
     (L : Leaves c (place s) s (holder (bucket (id s)) (S .chains .of (bucket (id s))) s) id next slot place id′ next′ slot′ place′) where
   abbrev q : ℕ
   q = place s
 
   s-below : (s < f) × (q ≤ c)
-  s-below = let p = and-parts _ _ live in (ltb-true s f (p .0), omega (arith, ltb-true (place s) (suc c) (p .1)))
+  s-below = let p = and-parts _ _ live in (ltb-true s f (p .0), omega (arith, ltb-true (place s) n (p .1)))
 
   seat : (slot q ≡ s)
   seat = S .place-at s (s-below .0) .1
@@ -59,14 +59,14 @@ module _ (c f s : ℕ) (id next slot place id′ next′ slot′ place′ : ℕ 
       (λ p i j e. omega (arith, S .slot-at (suc p) (omega (arith, S .few)) .1, ap place e))
 
   not-there : (t : ℕ) → t < f → (t ≡ s → ⊥) → place t ≡ q → ⊥
-  not-there t l n e = n (sym (S .place-at t l .1) ∙ ap slot e ∙ seat)
+  not-there t l ne e = ne (sym (S .place-at t l .1) ∙ ap slot e ∙ seat)
 
-  used-else : (t : ℕ) → (t ≡ s → ⊥) → in-use c f place′ t ≡ in-use (suc c) f place t
-  used-else t n = elim (cases-lt t f) [
+  used-else : (t : ℕ) → (t ≡ s → ⊥) → in-use c f place′ t ≡ in-use n f place t
+  used-else t ne = elim (cases-lt t f) [
     | inl l ↦ elim (cases-lt (place t) q) [
       | inl h ↦ let e = before t l h in let w = s-below .1 in grind (arith, tells)
       | inr h ↦
-          let k : q < place t = let z = not-there t l n in omega arith in
+          let k : q < place t = let z = not-there t l ne in omega arith in
           elim (cases-lt c (place t)) [
             | inl i ↦ let e = behind t l i in grind (arith, tells)
             | inr i ↦ let e = between t l k i in grind (arith, tells)
@@ -78,7 +78,7 @@ module _ (c f s : ℕ) (id next slot place id′ next′ slot′ place′ : ℕ 
   used-here : in-use c f place′ s ≡ false
   used-here = let z = le-ltb (place′ s) c (omega (arith, L .place-last)) in grind arith
 
-  abbrev C : Chains next id (in-use (suc c) f place)
+  abbrev C : Chains next id (in-use n f place)
   C = S .chains
 
   abbrev B : ℕ
@@ -108,22 +108,22 @@ module _ (c f s : ℕ) (id next slot place id′ next′ slot′ place′ : ℕ 
       | inr e ↦ rw (ne-eqb b B e) (C .once b l)
     ];
     holds = λ b t l.
-      let h = C .holds b t l in
-      let i = L .id-same t in
-      elim (cases-eq t s) [
-        | inl e ↦
-            let z : in-use c f place′ t ≡ false = ap (in-use c f place′) e ∙ used-here in
-            rw z (elim (cases-eq b B) [
-              | inl j ↦ rw (eq-eqb b B j) (let w = has-filter (λ x. not (eqb x s)) (C .of b) t in let y = eq-eqb t s e in grind arith)
-              | inr j ↦ rw (ne-eqb b B j) (h ∙ let y = ne-eqb (bucket (id t)) b (λ x. j (sym x ∙ ap (λ (u : ℕ). bucket (id u)) e)) in grind arith)
-            ])
-        | inr e ↦
-            let u = used-else t e in
-            rw (u, i) (elim (cases-eq b B) [
-              | inl j ↦ rw (eq-eqb b B j) (let w = has-filter (λ x. not (eqb x s)) (C .of b) t in let y = ne-eqb t s e in grind arith)
-              | inr j ↦ rw (ne-eqb b B j) h
-            ])
-      ]
+        let h = C .holds b t l in
+        let i = L .id-same t in
+        elim (cases-eq t s) [
+          | inl e ↦
+              let z : in-use c f place′ t ≡ false = ap (in-use c f place′) e ∙ used-here in
+              rw z (elim (cases-eq b B) [
+                | inl j ↦ rw (eq-eqb b B j) (let w = has-filter (λ x. not (eqb x s)) (C .of b) t in let y = eq-eqb t s e in grind arith)
+                | inr j ↦ rw (ne-eqb b B j) (h ∙ let y = ne-eqb (bucket (id t)) b (λ x. j (sym x ∙ ap (λ (u : ℕ). bucket (id u)) e)) in grind arith)
+              ])
+          | inr e ↦
+              let u = used-else t e in
+              rw (u, i) (elim (cases-eq b B) [
+                | inl j ↦ rw (eq-eqb b B j) (let w = has-filter (λ x. not (eqb x s)) (C .of b) t in let y = ne-eqb t s e in grind arith)
+                | inr j ↦ rw (ne-eqb b B j) h
+              ])
+        ];
   }
 
   pub left-standing : Standing c f id′ next′ slot′ place′
@@ -169,8 +169,8 @@ module _ (c f s : ℕ) (id next slot place id′ next′ slot′ place′ : ℕ 
           ]
     ];
     one-slot = λ t u x y e.
-      let nt : t ≡ s → ⊥ = λ z. both-ways _ used-here (ap (in-use c f place′) (sym z) ∙ x) in
-      let nu : u ≡ s → ⊥ = λ z. both-ways _ used-here (ap (in-use c f place′) (sym z) ∙ y) in
-      S .one-slot t u (sym (used-else t nt) ∙ x) (sym (used-else u nu) ∙ y) (sym (L .id-same t) ∙ e ∙ L .id-same u);
-    chains = left-chains
+        let nt : t ≡ s → ⊥ = λ z. both-ways _ used-here (ap (in-use c f place′) (sym z) ∙ x) in
+        let nu : u ≡ s → ⊥ = λ z. both-ways _ used-here (ap (in-use c f place′) (sym z) ∙ y) in
+        S .one-slot t u (sym (used-else t nt) ∙ x) (sym (used-else u nu) ∙ y) (sym (L .id-same t) ∙ e ∙ L .id-same u);
+    chains = left-chains;
   }

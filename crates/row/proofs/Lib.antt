@@ -36,3 +36,6 @@ pub mod Closed
 pub mod Closes
 pub mod Present
 pub mod Coming
+pub mod Going
+pub mod Beginning
+pub mod Elsewhere

@@ -99,13 +99,13 @@ apart m S = distinct-made (λ p. cell m ids (cell m slots p)) 0 (count m) (λ p 
 pub finds : Finds
 unfolding place-found
 finds m k S = (
-    (elim (cases-bool (has (cards m) k)) [
-      | inl h ↦
-          let w = card-slot m S k h in
-          let e : found m k ≡ Some (w .0) = ap (found m) (sym (w .2)) ∙ found-there m S (w .0) (w .1) in
-          rw (h, e) (ap Some (sym (place-card m S (w .0) (w .1)) ∙ ap (place (cards m)) (w .2)))
-      | inr h ↦ rw (h, found-absent m S k h)
-    ]),
-    (λ n. found-absent m S k n),
-    (λ h. let w = card-slot m S k h in (w .0, ap (found m) (sym (w .2)) ∙ found-there m S (w .0) (w .1), w .1, w .2)),
-  )
+  (elim (cases-bool (has (cards m) k)) [
+    | inl h ↦
+        let w = card-slot m S k h in
+        let e : found m k ≡ Some (w .0) = ap (found m) (sym (w .2)) ∙ found-there m S (w .0) (w .1) in
+        rw (h, e) (ap Some (sym (place-card m S (w .0) (w .1)) ∙ ap (place (cards m)) (w .2)))
+    | inr h ↦ rw (h, found-absent m S k h)
+  ]),
+  (λ n. found-absent m S k n),
+  (λ h. let w = card-slot m S k h in (w .0, ap (found m) (sym (w .2)) ∙ found-there m S (w .0) (w .1), w .1, w .2)),
+)
