@@ -1,0 +1,42 @@
+-- A step is taken if the memory and the output fit, else nothing is changed.
+use mathlib.Core.Path.{_≡_, refl, sym, subst}
+use mathlib.Core.Bool.{Bool, true, false, cond, _&&_}
+use mathlib.Core.List.{List, [], _∷_, _++_}
+use mathlib.Core.Logic.{_⊎_, inl, inr}
+use Prim.Native.Nat.{ℕ, _≤_, _<_}
+use native.Mathlib.Omega.{arith}
+use lib.Dec.{eqb, leb}
+use lib.ListN.{length}
+use Rattle.std.proofs.shelf.Ways.{tells}
+use Rattle.std.proofs.shelf.Tests.{eq-eqb, ne-eqb}
+use Rattle.keeper.specs.declared.event.Event.{Event}
+use Rattle.keeper.specs.declared.event.Event.the-variants.{Said, Next}
+use Rattle.keeper.specs.declared.event.Act.{Act}
+use Rattle.keeper.specs.declared.event.Act.the-variants.{Refused}
+use Rattle.keeper.specs.declared.event.Reason.the-variants.{Busy}
+use Rattle.row.specs.declared.board.Command.{Command}
+use Rattle.keeper.specs.Own.{Answer, answers, pending, said, went-on, answer, step-fits, Taken, Untaken, Step-by, Step-says}
+
+module _ (m : List ℕ) (ev : Event) (out : List ℕ) (r : Act) (m₁ out₁ : List ℕ) where
+  pub took : length m ≡ 524288 → 8192 ≤ length out → Taken m ev out r m₁ out₁ → Step-says m ev out r m₁ out₁
+  unfolding Step-by
+  took e h t =
+      let f : step-fits m out ≡ true = grind (arith, tells) in
+      subst (λ (b : Bool). Step-by b m ev out r m₁ out₁) (sym f) t
+
+  pub untook : step-fits m out ≡ false → Untaken m out r m₁ out₁ → Step-says m ev out r m₁ out₁
+  unfolding Step-by
+  untook f t =
+      subst (λ (b : Bool). Step-by b m ev out r m₁ out₁) (sym f) t
+
+pub answer-busy : (m : List ℕ) (c : Command) → (pending m ≡ 0 → ⊥) → answer m (Said c) ≡ answers (Refused Busy) m
+unfolding answer
+answer-busy m c n = rw (ne-eqb (pending m) 0 n)
+
+pub answer-said : (m : List ℕ) (c : Command) → pending m ≡ 0 → answer m (Said c) ≡ said m c
+unfolding answer
+answer-said m c e = rw (eq-eqb (pending m) 0 e)
+
+pub answer-next : (m : List ℕ) → answer m Next ≡ went-on m
+unfolding answer
+answer-next m = refl

@@ -1,0 +1,12 @@
+pub mod Ends
+pub mod Unroll
+pub mod Simulation
+pub mod Unmoved
+pub mod Parts
+pub mod Cases
+pub mod Size
+pub mod RowSize
+pub mod Zeros
+pub mod Same
+pub mod Excluding
+pub mod Fitting

@@ -1,0 +1,105 @@
+-- The keeper's engine, as the code goes.
+--
+--   Answer           what a step answers, the memory after it, and the numbers told or shown
+--   answers a m      an answer that tells and shows nothing
+--   refuses m e      refused by the board, and nothing changed
+--   pending m        what is still to come of the last command: 0 nothing, 1 that it's done
+--   ended o          how a command ends that an operation has done or refused
+--   shown-places     the places of two cards, shown
+--   said m c         a command is said, when nothing is pending
+--   went-on m        the keeper goes on with the last command
+--   answer m ev      a step: a command said before the last one's end is refused
+--   own              the engine: 524,288 zeros at the start, and the steps of `answer`; numbers of an event that don't fit 64 bits are refused
+--   step-fits        the memory has the engine's length, and the output room for 8,192 numbers
+--   Step-says        what the function `step` promises: it takes the engine's step, and tells its answer by the act and the front of the output; where
+--                    the memory or the output doesn't fit, nothing is changed
+use mathlib.Core.Path.{_≡_}
+use mathlib.Core.Bool.{Bool, true, false, cond, _&&_}
+use mathlib.Core.List.{List, [], _∷_, _++_}
+use Prim.Native.Nat.{ℕ}
+use lib.Dec.{eqb, leb}
+use lib.ListN.{length, drop, replicate}
+use Rattle.std.specs.declared.result.Result.{Result}
+use Rattle.std.specs.declared.result.Result.the-variants.{Ok, Err}
+use Rattle.row.specs.declared.board.Command.{Command}
+use Rattle.row.specs.declared.board.Command.the-variants.{Comes, Goes, Link as Links, Unlink as Unlinks, Places}
+use Rattle.row.specs.declared.board.Refusal.{Refusal}
+use Rattle.row.specs.declared.board.Refusal.the-variants.{Missing}
+use Rattle.row.specs.Columns.{cell, written}
+use Rattle.row.specs.Layout.{tally}
+use Rattle.row.specs.Lookup.{given}
+use Rattle.row.specs.Moves.{came, gone, place-found}
+use Rattle.keeper.specs.declared.event.Event.{Event}
+use Rattle.keeper.specs.declared.event.Event.the-variants.{Said, Next}
+use Rattle.keeper.specs.declared.event.Reason.{Reason}
+use Rattle.keeper.specs.declared.event.Reason.the-variants.{Unfit, Idle, Busy, Board, NotYet}
+use Rattle.keeper.specs.declared.event.Act.{Act}
+use Rattle.keeper.specs.declared.event.Act.the-variants.{Tells, Shows, Done, Refused}
+use Rattle.keeper.specs.Engine.{action-of, Step, Engine}
+use Rattle.keeper.specs.Sized.{guarded}
+
+pub record Answer : Type 0 where
+  pub act : Act
+  pub memory : List ℕ
+  pub numbers : List ℕ
+
+abbrev pub answers : Act → List ℕ → Answer
+answers a m = record { act = a; memory = m; numbers = [] }
+
+abbrev pub refuses : List ℕ → Refusal → Answer
+refuses m e = answers (Refused (Board e)) m
+
+abbrev pub pending : List ℕ → ℕ
+pending m = cell m tally 4
+
+abbrev pub ended : Result ℕ Refusal → Act
+ended (Ok s) = Done
+ended (Err e) = Refused (Board e)
+
+abbrev pub shown-places : List ℕ → ℕ → ℕ → Answer
+shown-places m a b =
+    given (place-found m a) (refuses m Missing) (λ p.
+    given (place-found m b) (refuses m Missing) (λ q.
+    record { act = Shows 2; memory = written m tally 4 1; numbers = p ∷ q ∷ [] }))
+
+unfoldable pub said : List ℕ → Command → Answer
+said m (Comes k) = answers (ended (came m k .answer)) (came m k .memory)
+said m (Goes k) = answers (ended (gone m k .answer)) (gone m k .memory)
+said m (Links l) = answers (Refused NotYet) m
+said m (Unlinks l) = answers (Refused NotYet) m
+said m (Places a b) = shown-places m a b
+
+unfoldable pub went-on : List ℕ → Answer
+went-on m = answers (cond (eqb (pending m) 1) Done (Refused Idle)) (written m tally 4 0)
+
+unfoldable pub answer : List ℕ → Event → Answer
+answer m (Said c) = cond (eqb (pending m) 0) (said m c) (answers (Refused Busy) m)
+answer m Next = went-on m
+
+abbrev pub steps : List ℕ → Event → Step
+steps m ev = record { memory = answer m ev .memory; action = action-of (answer m ev .act) (answer m ev .numbers) }
+
+abbrev pub own : Engine
+own = record { start = replicate 524288 0; step = guarded steps }
+
+abbrev pub step-fits : List ℕ → List ℕ → Bool
+step-fits m out = eqb (length m) 524288 && leb 8192 (length out)
+
+-- the answer, told
+pub record Taken (m : List ℕ) (ev : Event) (out : List ℕ) (r : Act) (m₁ out₁ : List ℕ) : Type 0 where
+  pub act : r ≡ answer m ev .act
+  pub memory : m₁ ≡ answer m ev .memory
+  pub told : out₁ ≡ answer m ev .numbers ++ drop (length (answer m ev .numbers)) out
+
+-- nothing changed
+pub record Untaken (m out : List ℕ) (r : Act) (m₁ out₁ : List ℕ) : Type 0 where
+  pub act : r ≡ Refused Unfit
+  pub memory : m₁ ≡ m
+  pub told : out₁ ≡ out
+
+unfoldable pub Step-by : Bool → List ℕ → Event → List ℕ → Act → List ℕ → List ℕ → Type 0
+Step-by true m ev out r m₁ out₁ = Taken m ev out r m₁ out₁
+Step-by false m ev out r m₁ out₁ = Untaken m out r m₁ out₁
+
+abbrev pub Step-says : List ℕ → Event → List ℕ → Act → List ℕ → List ℕ → Type 0
+Step-says m ev out r m₁ out₁ = Step-by (step-fits m out) m ev out r m₁ out₁

@@ -1,0 +1,13 @@
+// What the keeper has of its own in the lent memory: single numbers in TALLY.
+
+// How many numbers the memory has, and how many the lent output has to have room for.
+pub const MEMORY: usize = 524288;
+
+pub const OUTPUT: usize = 8192;
+
+// What is still to come of the last command: nothing; or that it's done.
+pub const PENDING: u64 = 4;
+
+pub const NOTHING: u64 = 0;
+
+pub const DONE: u64 = 1;

@@ -1,0 +1,96 @@
+// One step of the keeper.
+ghost use mathlib.Core.Path.{_≡_};
+ghost use mathlib.Core.List.{_++_};
+ghost use Prim.Native.Nat.{_≤_};
+ghost use lib.ListN.{length, drop};
+ghost use Rattle.keeper.specs.Own.{Answer, ended, shown-places, said, went-on, Step-says};
+use crate::event::Act;
+use crate::event::Event;
+use crate::event::Reason;
+use crate::layout::DONE;
+use crate::layout::MEMORY;
+use crate::layout::NOTHING;
+use crate::layout::OUTPUT;
+use crate::layout::PENDING;
+use row::Command;
+use row::Refusal;
+use row::TALLY;
+use row::comes;
+use row::goes;
+use row::place_of;
+
+// How a command ends that an operation has done or refused.
+fn end(outcome: Result<u64, Refusal>) -> Act
+    ensures { λ r. ⌜ r ≡ ended outcome ⌝ }
+{
+    match outcome {
+        Ok(_) => Act::Done,
+        Err(refusal) => Act::Refused(Reason::Board(refusal)),
+    }
+}
+
+// Shows how many cards stand before each of the two.
+fn show_places(memory: &mut [u64], a: u64, b: u64, out: &mut [u64]) -> Act
+    requires { ⌜ 8192 ≤ length (now out) ⌝ }
+    ensures act { λ r. ⌜ r ≡ shown-places (now (memory .entry)) a b .act ⌝ }
+    ensures after { λ _. ⌜ now (memory .exit) ≡ shown-places (now (memory .entry)) a b .memory ⌝ }
+    ensures out { λ _. ⌜ now (out .exit) ≡ shown-places (now (memory .entry)) a b .numbers ++ drop (length (shown-places (now (memory .entry)) a b .numbers)) (now (out .entry)) ⌝ }
+{
+    let Some(first) = place_of(memory, a) else {
+        return Act::Refused(Reason::Board(Refusal::Missing));
+    };
+    let Some(second) = place_of(memory, b) else {
+        return Act::Refused(Reason::Board(Refusal::Missing));
+    };
+    out[0] = first;
+    out[1] = second;
+    TALLY.set(memory, PENDING, DONE);
+    Act::Shows(2)
+}
+
+// A command is said.
+fn say(memory: &mut [u64], command: Command, out: &mut [u64]) -> Act
+    requires { ⌜ 8192 ≤ length (now out) ⌝ }
+    ensures act { λ r. ⌜ r ≡ said (now (memory .entry)) command .act ⌝ }
+    ensures after { λ _. ⌜ now (memory .exit) ≡ said (now (memory .entry)) command .memory ⌝ }
+    ensures out { λ _. ⌜ now (out .exit) ≡ said (now (memory .entry)) command .numbers ++ drop (length (said (now (memory .entry)) command .numbers)) (now (out .entry)) ⌝ }
+{
+    match command {
+        Command::Comes(card) => end(comes(memory, card)),
+        Command::Goes(card) => end(goes(memory, card)),
+        Command::Places(a, b) => show_places(memory, a, b, out),
+        Command::Link(_) => Act::Refused(Reason::NotYet),
+        Command::Unlink(_) => Act::Refused(Reason::NotYet),
+    }
+}
+
+// Goes on with the last command.
+fn go_on(memory: &mut [u64]) -> Act
+    ensures act { λ r. ⌜ r ≡ went-on (now (memory .entry)) .act ⌝ }
+    ensures after { λ _. ⌜ now (memory .exit) ≡ went-on (now (memory .entry)) .memory ⌝ }
+{
+    let pending = TALLY.get(memory, PENDING);
+    TALLY.set(memory, PENDING, NOTHING);
+    match pending {
+        DONE => Act::Done,
+        _ => Act::Refused(Reason::Idle),
+    }
+}
+
+// One step: the answer to an event, the memory after it, and what is told or shown at the front of `out`.
+pub fn step(memory: &mut [u64], event: Event, out: &mut [u64]) -> Act
+    ensures { λ r. ⌜ Step-says (now (memory .entry)) event (now (out .entry)) r (now (memory .exit)) (now (out .exit)) ⌝ }
+{
+    if memory.len() != MEMORY || out.len() < OUTPUT {
+        return Act::Refused(Reason::Unfit);
+    }
+    match event {
+        Event::Next => go_on(memory),
+        Event::Said(command) => {
+            if TALLY.get(memory, PENDING) != NOTHING {
+                return Act::Refused(Reason::Busy);
+            }
+            say(memory, command, out)
+        }
+    }
+}

@@ -1,0 +1,38 @@
+// What is proved of engines: a function for each statement, whose contract it is.
+ghost use Rattle.keeper.specs.Sister.{Soon-is-more, End-stays, One-board};
+ghost use Rattle.keeper.specs.Excluded.{Idle-is-not, Endless-is-not};
+
+// What meets the firmer promise meets the promise.
+pub fn soon_is_more_stands() -> u8
+    ensures { λ _. ⌜ Soon-is-more ⌝ }
+{
+    0
+}
+
+// A run that is at its end stays as it is with more steps.
+pub fn end_stays_stands() -> u8
+    ensures { λ _. ⌜ End-stays ⌝ }
+{
+    0
+}
+
+// Two engines that meet the firmer promise come to the same board.
+pub fn one_board_stands() -> u8
+    ensures { λ _. ⌜ One-board ⌝ }
+{
+    0
+}
+
+// An engine that refuses everything doesn't meet the promise.
+pub fn idle_is_not_stands() -> u8
+    ensures { λ _. ⌜ Idle-is-not ⌝ }
+{
+    0
+}
+
+// An engine that never comes to an end doesn't meet the promise.
+pub fn endless_is_not_stands() -> u8
+    ensures { λ _. ⌜ Endless-is-not ⌝ }
+{
+    0
+}
