@@ -22,6 +22,8 @@ pub mod RenamesReach
 pub mod RenamesWays
 pub mod RenamesRows
 pub mod Renames
+pub mod Firsts
+pub mod Replies
 pub mod Fuel
 pub mod Cells
 pub mod Seeking

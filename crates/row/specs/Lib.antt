@@ -4,6 +4,7 @@ pub mod Commands
 pub mod Theory
 pub mod Week
 pub mod Renaming
+pub mod Kept
 pub mod Columns
 pub mod Layout
 pub mod Lookup

@@ -2,6 +2,7 @@
 ghost use Rattle.row.specs.Theory.{Can-be, Can-be-firm, Only-one, Firm-is-little, Leads-on, Leads-before, Leads-just};
 ghost use Rattle.row.specs.Theory.{Round-there, Only-between, Only-touched, Stays-fine, Little-is-loose};
 ghost use Rattle.row.specs.Renaming.{Renames};
+ghost use Rattle.row.specs.Kept.{Kept-just, Broken-just, Refused-just};
 ghost use Rattle.row.specs.Week.{Week};
 
 // A link that is not refused can be kept.
@@ -98,6 +99,27 @@ pub fn renames_stands() -> u8
 // A week, worked through.
 pub fn week_stands() -> u8
     ensures { λ _. ⌜ Week ⌝ }
+{
+    0
+}
+
+// Kept is the reply just if the row keeps the links.
+pub fn kept_just_stands() -> u8
+    ensures { λ _. ⌜ Kept-just ⌝ }
+{
+    0
+}
+
+// Broken is the reply just if it names the first link that isn't kept.
+pub fn broken_just_stands() -> u8
+    ensures { λ _. ⌜ Broken-just ⌝ }
+{
+    0
+}
+
+// Refused is the reply only if there is half a link, or too much.
+pub fn refused_just_stands() -> u8
+    ensures { λ _. ⌜ Refused-just ⌝ }
 {
     0
 }

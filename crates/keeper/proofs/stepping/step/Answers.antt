@@ -18,8 +18,11 @@ returns-then-get-ne-NOTHING c =
     let m = c .args .memory .now in
     let e = ap (answer m) (c .in-Said .is) ∙ answer-busy m (c .in-Said .command) (λ z. c .if-get-ne-NOTHING .taken (c .get .ensures ∙ z)) in
     took m (c .args .event) (c .args .out .now) _ _ _ (c .if-memory-ne-MEMORY .left) (c .if-out-lt-OUTPUT .left)
-    (record { act = sym (ap (λ (a : Answer). a .act) e); memory = sym (ap (λ (a : Answer). a .memory) e);
-      told = sym (ap (λ (a : Answer). a .numbers ++ drop (length (a .numbers)) (c .args .out .now)) e) })
+    (record {
+      act = sym (ap (λ (a : Answer). a .act) e);
+      memory = sym (ap (λ (a : Answer). a .memory) e);
+      told = sym (ap (λ (a : Answer). a .numbers ++ drop (length (a .numbers)) (c .args .out .now)) e);
+    })
 
 pub returns-in-Next : need.returns-in-Next
 unfolding went-on
@@ -27,13 +30,19 @@ returns-in-Next c =
     let m = c .args .memory .now in
     let e = ap (answer m) (c .in-Next .is) ∙ answer-next m in
     took m (c .args .event) (c .args .out .now) _ _ _ (c .if-memory-ne-MEMORY .left) (c .if-out-lt-OUTPUT .left)
-    (record { act = c .go-on .ensures .act ∙ sym (ap (λ (a : Answer). a .act) e); memory = c .go-on .ensures .after ∙ sym (ap (λ (a : Answer). a .memory) e);
-      told = sym (ap (λ (a : Answer). a .numbers ++ drop (length (a .numbers)) (c .args .out .now)) e) })
+    (record {
+      act = c .go-on .ensures .act ∙ sym (ap (λ (a : Answer). a .act) e);
+      memory = c .go-on .ensures .after ∙ sym (ap (λ (a : Answer). a .memory) e);
+      told = sym (ap (λ (a : Answer). a .numbers ++ drop (length (a .numbers)) (c .args .out .now)) e);
+    })
 
 pub returns-else-get-ne-NOTHING : need.returns-else-get-ne-NOTHING
 returns-else-get-ne-NOTHING c =
     let m = c .args .memory .now in
     let e = ap (answer m) (c .in-Said .is) ∙ answer-said m (c .in-Said .command) (sym (c .get .ensures) ∙ c .if-get-ne-NOTHING .left) in
     took m (c .args .event) (c .args .out .now) _ _ _ (c .if-memory-ne-MEMORY .left) (c .if-out-lt-OUTPUT .left)
-    (record { act = c .say .ensures .act ∙ sym (ap (λ (a : Answer). a .act) e); memory = c .say .ensures .after ∙ sym (ap (λ (a : Answer). a .memory) e);
-      told = c .say .ensures .out ∙ sym (ap (λ (a : Answer). a .numbers ++ drop (length (a .numbers)) (c .args .out .now)) e) })
+    (record {
+      act = c .say .ensures .act ∙ sym (ap (λ (a : Answer). a .act) e);
+      memory = c .say .ensures .after ∙ sym (ap (λ (a : Answer). a .memory) e);
+      told = c .say .ensures .out ∙ sym (ap (λ (a : Answer). a .numbers ++ drop (length (a .numbers)) (c .args .out .now)) e);
+    })
