@@ -15,7 +15,8 @@ use Rattle.keeper.specs.declared.event.Act.{Act}
 use Rattle.keeper.specs.declared.event.Act.the-variants.{Refused}
 use Rattle.keeper.specs.declared.event.Reason.the-variants.{Busy}
 use Rattle.row.specs.declared.board.Command.{Command}
-use Rattle.keeper.specs.Own.{Answer, answers, pending, said, went-on, answer, step-fits, Taken, Untaken, Step-by, Step-says}
+use Rattle.keeper.specs.Answers.{Answer, quiet, ends, pending}
+use Rattle.keeper.specs.Own.{said, went-on, answer, step-fits, Taken, Untaken, Step-by, Step-says}
 
 module _ (m : List ℕ) (ev : Event) (out : List ℕ) (r : Act) (m₁ out₁ : List ℕ) where
   pub took : length m ≡ 524288 → 8192 ≤ length out → Taken m ev out r m₁ out₁ → Step-says m ev out r m₁ out₁
@@ -29,7 +30,7 @@ module _ (m : List ℕ) (ev : Event) (out : List ℕ) (r : Act) (m₁ out₁ : L
   untook f t =
       subst (λ (b : Bool). Step-by b m ev out r m₁ out₁) (sym f) t
 
-pub answer-busy : (m : List ℕ) (c : Command) → (pending m ≡ 0 → ⊥) → answer m (Said c) ≡ answers (Refused Busy) m
+pub answer-busy : (m : List ℕ) (c : Command) → (pending m ≡ 0 → ⊥) → answer m (Said c) ≡ quiet (ends (Refused Busy) m)
 unfolding answer
 answer-busy m c n = rw (ne-eqb (pending m) 0 n)
 
@@ -37,6 +38,6 @@ pub answer-said : (m : List ℕ) (c : Command) → pending m ≡ 0 → answer m 
 unfolding answer
 answer-said m c e = rw (eq-eqb (pending m) 0 e)
 
-pub answer-next : (m : List ℕ) → answer m Next ≡ went-on m
+pub answer-next : (m : List ℕ) → answer m Next ≡ quiet (went-on m)
 unfolding answer
 answer-next m = refl

@@ -1,10 +1,7 @@
 -- The keeper's engine, as the code goes.
 --
---   Answer           what a step answers, the memory after it, and the numbers told or shown
---   answers a m      an answer that tells and shows nothing
---   refuses m e      refused by the board, and nothing changed
---   pending m        what is still to come of the last command: 0 nothing, 1 that it's done
---   ended o          how a command ends that an operation has done or refused
+--   ended o m        how a command ends that an operation has done or refused
+--   left m k         a card goes, and its links with it
 --   shown-places     the places of two cards, shown
 --   said m c         a command is said, when nothing is pending
 --   went-on m        the keeper goes on with the last command
@@ -20,61 +17,50 @@ use Prim.Native.Nat.{ℕ}
 use lib.Dec.{eqb, leb}
 use lib.ListN.{length, drop, replicate}
 use Rattle.std.specs.declared.result.Result.{Result}
-use Rattle.std.specs.declared.result.Result.the-variants.{Ok, Err}
 use Rattle.row.specs.declared.board.Command.{Command}
 use Rattle.row.specs.declared.board.Command.the-variants.{Comes, Goes, Link as Links, Unlink as Unlinks, Places}
 use Rattle.row.specs.declared.board.Refusal.{Refusal}
-use Rattle.row.specs.declared.board.Refusal.the-variants.{Missing}
-use Rattle.row.specs.Columns.{cell, written}
-use Rattle.row.specs.Layout.{tally}
+use Rattle.row.specs.declared.board.Refusal.the-variants.{Missing, Cycle}
 use Rattle.row.specs.Lookup.{given}
 use Rattle.row.specs.Moves.{came, gone, place-found}
+use Rattle.links.specs.Removing.{removed-all}
 use Rattle.keeper.specs.declared.event.Event.{Event}
 use Rattle.keeper.specs.declared.event.Event.the-variants.{Said, Next}
 use Rattle.keeper.specs.declared.event.Reason.{Reason}
-use Rattle.keeper.specs.declared.event.Reason.the-variants.{Unfit, Idle, Busy, Board, NotYet}
+use Rattle.keeper.specs.declared.event.Reason.the-variants.{Unfit, Idle, Busy, Board}
 use Rattle.keeper.specs.declared.event.Act.{Act}
 use Rattle.keeper.specs.declared.event.Act.the-variants.{Tells, Shows, Done, Refused}
 use Rattle.keeper.specs.Engine.{action-of, Step, Engine}
 use Rattle.keeper.specs.Sized.{guarded}
+use Rattle.keeper.specs.Answers.{Answer, Ended, quiet, ends, refuses, pending, leaves-pending, by-result}
+use Rattle.keeper.specs.Linking.{linked, unlinked}
 
-pub record Answer : Type 0 where
-  pub act : Act
-  pub memory : List ℕ
-  pub numbers : List ℕ
+abbrev pub ended : Result ℕ Refusal → List ℕ → Ended
+ended o m = by-result o (λ s. ends Done m) (λ e. refuses m e)
 
-abbrev pub answers : Act → List ℕ → Answer
-answers a m = record { act = a; memory = m; numbers = [] }
-
-abbrev pub refuses : List ℕ → Refusal → Answer
-refuses m e = answers (Refused (Board e)) m
-
-abbrev pub pending : List ℕ → ℕ
-pending m = cell m tally 4
-
-abbrev pub ended : Result ℕ Refusal → Act
-ended (Ok s) = Done
-ended (Err e) = Refused (Board e)
+abbrev pub left : List ℕ → ℕ → Ended
+left m k = by-result (gone m k .answer) (λ s. ends Done (removed-all (gone m k .memory) s)) (λ e. refuses (gone m k .memory) e)
 
 abbrev pub shown-places : List ℕ → ℕ → ℕ → Answer
 shown-places m a b =
-    given (place-found m a) (refuses m Missing) (λ p.
-    given (place-found m b) (refuses m Missing) (λ q.
-    record { act = Shows 2; memory = written m tally 4 1; numbers = p ∷ q ∷ [] }))
+    given (place-found m a) (quiet (refuses m Missing)) (λ p.
+    given (place-found m b) (quiet (refuses m Missing)) (λ q.
+    record { act = Shows 2; memory = leaves-pending m 1; numbers = p ∷ q ∷ [] }))
 
 unfoldable pub said : List ℕ → Command → Answer
-said m (Comes k) = answers (ended (came m k .answer)) (came m k .memory)
-said m (Goes k) = answers (ended (gone m k .answer)) (gone m k .memory)
-said m (Links l) = answers (Refused NotYet) m
-said m (Unlinks l) = answers (Refused NotYet) m
+said m (Comes k) = quiet (ended (came m k .answer) (came m k .memory))
+said m (Goes k) = quiet (left m k)
+said m (Links l) = linked m l
+said m (Unlinks l) = quiet (unlinked m l)
 said m (Places a b) = shown-places m a b
 
-unfoldable pub went-on : List ℕ → Answer
-went-on m = answers (cond (eqb (pending m) 1) Done (Refused Idle)) (written m tally 4 0)
+unfoldable pub went-on : List ℕ → Ended
+went-on m =
+    ends (cond (eqb (pending m) 1) Done (cond (eqb (pending m) 2) (Refused (Board Cycle)) (Refused Idle))) (leaves-pending m 0)
 
 unfoldable pub answer : List ℕ → Event → Answer
-answer m (Said c) = cond (eqb (pending m) 0) (said m c) (answers (Refused Busy) m)
-answer m Next = went-on m
+answer m (Said c) = cond (eqb (pending m) 0) (said m c) (quiet (ends (Refused Busy) m))
+answer m Next = quiet (went-on m)
 
 abbrev pub steps : List ℕ → Event → Step
 steps m ev = record { memory = answer m ev .memory; action = action-of (answer m ev .act) (answer m ev .numbers) }

@@ -1,6 +1,7 @@
 // The keeper of a board: what it is told and what it answers, what is promised of it, and what is proved of the promise.
 mod event;
 mod layout;
+mod linking;
 mod stepping;
 mod theory;
 

@@ -3,7 +3,8 @@ ghost use mathlib.Core.Path.{_≡_};
 ghost use mathlib.Core.List.{_++_};
 ghost use Prim.Native.Nat.{_≤_};
 ghost use lib.ListN.{length, drop};
-ghost use Rattle.keeper.specs.Own.{Answer, ended, shown-places, said, went-on, Step-says};
+ghost use Rattle.row.specs.Moves.{came};
+ghost use Rattle.keeper.specs.Own.{ended, left, shown-places, said, went-on, Step-says};
 use crate::event::Act;
 use crate::event::Event;
 use crate::event::Reason;
@@ -12,6 +13,10 @@ use crate::layout::MEMORY;
 use crate::layout::NOTHING;
 use crate::layout::OUTPUT;
 use crate::layout::PENDING;
+use crate::layout::ROUND;
+use crate::linking::link;
+use crate::linking::unlink;
+use links::remove_all;
 use row::Command;
 use row::Refusal;
 use row::TALLY;
@@ -19,12 +24,27 @@ use row::comes;
 use row::goes;
 use row::place_of;
 
-// How a command ends that an operation has done or refused.
-fn end(outcome: Result<u64, Refusal>) -> Act
-    ensures { λ r. ⌜ r ≡ ended outcome ⌝ }
+// A card comes.
+fn arrive(memory: &mut [u64], card: u64) -> Act
+    ensures act { λ r. ⌜ r ≡ ended (came (now (memory .entry)) card .answer) (came (now (memory .entry)) card .memory) .act ⌝ }
+    ensures after { λ _. ⌜ now (memory .exit) ≡ ended (came (now (memory .entry)) card .answer) (came (now (memory .entry)) card .memory) .memory ⌝ }
 {
-    match outcome {
+    match comes(memory, card) {
         Ok(_) => Act::Done,
+        Err(refusal) => Act::Refused(Reason::Board(refusal)),
+    }
+}
+
+// A card goes, and its links with it.
+fn leave(memory: &mut [u64], card: u64) -> Act
+    ensures act { λ r. ⌜ r ≡ left (now (memory .entry)) card .act ⌝ }
+    ensures after { λ _. ⌜ now (memory .exit) ≡ left (now (memory .entry)) card .memory ⌝ }
+{
+    match goes(memory, card) {
+        Ok(slot) => {
+            remove_all(memory, slot);
+            Act::Done
+        }
         Err(refusal) => Act::Refused(Reason::Board(refusal)),
     }
 }
@@ -56,11 +76,11 @@ fn say(memory: &mut [u64], command: Command, out: &mut [u64]) -> Act
     ensures out { λ _. ⌜ now (out .exit) ≡ said (now (memory .entry)) command .numbers ++ drop (length (said (now (memory .entry)) command .numbers)) (now (out .entry)) ⌝ }
 {
     match command {
-        Command::Comes(card) => end(comes(memory, card)),
-        Command::Goes(card) => end(goes(memory, card)),
+        Command::Comes(card) => arrive(memory, card),
+        Command::Goes(card) => leave(memory, card),
+        Command::Link(pair) => link(memory, pair, out),
+        Command::Unlink(pair) => unlink(memory, pair),
         Command::Places(a, b) => show_places(memory, a, b, out),
-        Command::Link(_) => Act::Refused(Reason::NotYet),
-        Command::Unlink(_) => Act::Refused(Reason::NotYet),
     }
 }
 
@@ -73,6 +93,7 @@ fn go_on(memory: &mut [u64]) -> Act
     TALLY.set(memory, PENDING, NOTHING);
     match pending {
         DONE => Act::Done,
+        ROUND => Act::Refused(Reason::Board(Refusal::Cycle)),
         _ => Act::Refused(Reason::Idle),
     }
 }

@@ -4,7 +4,8 @@
 // places, and behind them wait the slots that are free again, so that a card that comes takes the slot at the row's end.
 ghost use mathlib.Core.Path.{_≡_};
 ghost use Prim.Native.Nat.{_<_, _-_};
-ghost use Rattle.row.specs.Layout.{count};
+ghost use Rattle.row.specs.Columns.{cell};
+ghost use Rattle.row.specs.Layout.{count, places};
 ghost use Rattle.row.specs.Lookup.{Below};
 ghost use Rattle.row.specs.Moves.{room, slot-for, taken, came, gone, shifted, last, closed, place-found};
 use crate::board::Refusal;
@@ -33,7 +34,14 @@ pub fn place_of(memory: &[u64], card: u64) -> Option<u64>
     let Some(slot) = find(memory, card) else {
         return None;
     };
-    Some(PLACES.get(memory, slot))
+    Some(place_at(memory, slot))
+}
+
+// How many cards stand before the card in a slot.
+pub fn place_at(memory: &[u64], slot: u64) -> u64
+    ensures { λ r. ⌜ r ≡ cell (now (memory .entry)) places slot ⌝ }
+{
+    PLACES.get(memory, slot)
 }
 
 // The place behind the last card, if there's room for one more.
@@ -101,7 +109,7 @@ fn close(memory: &mut [u64], slot: u64)
     ensures { λ _. ⌜ now (memory .exit) ≡ closed (now (memory .entry)) slot ⌝ }
 {
     let to = last_place(memory);
-    let from = PLACES.get(memory, slot);
+    let from = place_at(memory, slot);
     shift(memory, from, to);
     SLOTS.set(memory, to, slot);
     PLACES.set(memory, slot, to);

@@ -15,6 +15,7 @@ pub use board::Refusal;
 pub use cards::comes;
 pub use cards::goes;
 pub use cards::len;
+pub use cards::place_at;
 pub use cards::place_of;
 pub use column::Column;
 pub use keeping::Reply;

@@ -4,7 +4,8 @@ use native.Mathlib.Omega.{arith}
 use lib.ListN.{length, drop}
 use Rattle.std.proofs.shelf.Ways.{tells}
 use Rattle.keeper.specs.declared.event.Event.{Event}
-use Rattle.keeper.specs.Own.{Answer, answer, went-on}
+use Rattle.keeper.specs.Answers.{Answer}
+use Rattle.keeper.specs.Own.{answer}
 use Rattle.keeper.proofs.Fitting.{took, untook, answer-busy, answer-said, answer-next}
 use Rattle.keeper.proofs.stepping.step.Needs as need
 
@@ -25,7 +26,6 @@ returns-then-get-ne-NOTHING c =
     })
 
 pub returns-in-Next : need.returns-in-Next
-unfolding went-on
 returns-in-Next c =
     let m = c .args .memory .now in
     let e = ap (answer m) (c .in-Next .is) ∙ answer-next m in

@@ -1,0 +1,10 @@
+pub mod Skips
+pub mod Layout
+pub mod Chains
+pub mod Entries
+pub mod Building
+pub mod Removing
+pub mod Meaning
+pub mod Frames
+pub mod Steps
+pub mod Laws
