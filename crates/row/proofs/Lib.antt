@@ -41,3 +41,4 @@ pub mod Coming
 pub mod Going
 pub mod Beginning
 pub mod Elsewhere
+pub mod Depending

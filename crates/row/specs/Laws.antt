@@ -7,6 +7,7 @@
 --   Finds          a card is found if and only if it's there, and at its place
 --   Tells          what is told is the row's middle
 --   Else-stays     nothing but the columns of this crate changes, and the memory keeps its length
+--   Depends        what the row means depends on the columns of this crate alone
 use mathlib.Core.Path.{_≡_}
 use mathlib.Core.List.{List, [], _∷_, _++_}
 use mathlib.Core.Bool.{Bool, true, false, cond, not}
@@ -81,3 +82,18 @@ pub record Only-row (m m′ : List ℕ) : Type 0 where
 
 abbrev pub Else-stays : Type 0
 Else-stays = (m : List ℕ) (k : ℕ) → Only-row m (came m k .memory) × Only-row m (gone m k .memory)
+
+-- m and m′ agree on the columns of this crate
+pub record Same-row (m m′ : List ℕ) : Type 0 where
+  pub as-long : length m′ ≡ length m
+  pub same-count : cell m′ tally 0 ≡ cell m tally 0
+  pub same-fresh : cell m′ tally 1 ≡ cell m tally 1
+  pub same-ids : (j : ℕ) → cell m′ ids j ≡ cell m ids j
+  pub same-chain : (j : ℕ) → cell m′ chain j ≡ cell m chain j
+  pub same-slots : (j : ℕ) → cell m′ slots j ≡ cell m slots j
+  pub same-places : (j : ℕ) → cell m′ places j ≡ cell m places j
+
+abbrev pub Depends : Type 0
+Depends =
+    (m m′ : List ℕ) → Same-row m m′ →
+    (Stands m → Stands m′) × (cards m′ ≡ cards m) × (row-of m′ ≡ row-of m) × ((s : ℕ) → used m′ s ≡ used m s)

@@ -1,5 +1,5 @@
 // What is proved of the row in its memory: a function for each statement, whose contract it is.
-ghost use Rattle.row.specs.Laws.{Begins, Apart, Comes-appends, Goes-filters, Finds, Tells, Else-stays};
+ghost use Rattle.row.specs.Laws.{Begins, Apart, Comes-appends, Goes-filters, Finds, Tells, Else-stays, Depends};
 
 // Zeros stand, with no cards.
 pub fn begins_stands() -> u8
@@ -46,6 +46,13 @@ pub fn tells_stands() -> u8
 // Nothing but the columns of this crate changes when a card comes or goes.
 pub fn else_stays_stands() -> u8
     ensures { λ _. ⌜ Else-stays ⌝ }
+{
+    0
+}
+
+// What the row means depends on the columns of this crate alone.
+pub fn depends_stands() -> u8
+    ensures { λ _. ⌜ Depends ⌝ }
 {
     0
 }

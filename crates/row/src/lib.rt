@@ -24,6 +24,7 @@ pub use keeping::kept;
 pub use laws::apart_stands;
 pub use laws::begins_stands;
 pub use laws::comes_appends_stands;
+pub use laws::depends_stands;
 pub use laws::else_stays_stands;
 pub use laws::finds_stands;
 pub use laws::goes_filters_stands;

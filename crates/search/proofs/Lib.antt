@@ -1,0 +1,15 @@
+pub mod Words
+pub mod Options
+pub mod Clearing
+pub mod Turning
+pub mod Toggling
+pub mod Adding
+pub mod Runs
+pub mod Near
+pub mod Upward
+pub mod Naming
+pub mod Downward
+pub mod Sweeps
+pub mod Wiping
+pub mod Frames
+pub mod Zeros

@@ -1,0 +1,101 @@
+// What is proved of sets of places: a function for each statement, whose contract it is.
+ghost use Rattle.search.specs.MarkLaws.{Adding, Adding-past, Removing, Going-up, Going-down, First-of-all, Skipping-up, Skipping-down};
+ghost use Rattle.search.specs.MarkLaws.{Wiping, Zeros, Fresh-memory, Framing, Cells-alone, Columns-apart};
+
+// A place that is added is marked from then on, and nothing else changes.
+pub fn adding_stands() -> u8
+    ensures { λ _. ⌜ Adding ⌝ }
+{
+    0
+}
+
+// A place past the last one can't be added.
+pub fn adding_past_stands() -> u8
+    ensures { λ _. ⌜ Adding-past ⌝ }
+{
+    0
+}
+
+// A place that is removed isn't marked any more, and nothing else changes.
+pub fn removing_stands() -> u8
+    ensures { λ _. ⌜ Removing ⌝ }
+{
+    0
+}
+
+// `next_up` finds the first marked place after a place.
+pub fn going_up_stands() -> u8
+    ensures { λ _. ⌜ Going-up ⌝ }
+{
+    0
+}
+
+// `next_down` finds the last marked place before a place.
+pub fn going_down_stands() -> u8
+    ensures { λ _. ⌜ Going-down ⌝ }
+{
+    0
+}
+
+// `first` finds the first marked place.
+pub fn first_of_all_stands() -> u8
+    ensures { λ _. ⌜ First-of-all ⌝ }
+{
+    0
+}
+
+// Upward, trying place after place finds the same.
+pub fn skipping_up_stands() -> u8
+    ensures { λ _. ⌜ Skipping-up ⌝ }
+{
+    0
+}
+
+// Downward, trying place after place finds the same.
+pub fn skipping_down_stands() -> u8
+    ensures { λ _. ⌜ Skipping-down ⌝ }
+{
+    0
+}
+
+// After wiping nothing is marked.
+pub fn wiping_stands() -> u8
+    ensures { λ _. ⌜ Wiping ⌝ }
+{
+    0
+}
+
+// A column of zeros marks nothing.
+pub fn zeros_stands() -> u8
+    ensures { λ _. ⌜ Zeros ⌝ }
+{
+    0
+}
+
+// In a memory of zeros neither column of this crate marks anything.
+pub fn fresh_memory_stands() -> u8
+    ensures { λ _. ⌜ Fresh-memory ⌝ }
+{
+    0
+}
+
+// Only the column itself is written.
+pub fn framing_stands() -> u8
+    ensures { λ _. ⌜ Framing ⌝ }
+{
+    0
+}
+
+// What is marked depends on the column's cells alone.
+pub fn cells_alone_stands() -> u8
+    ensures { λ _. ⌜ Cells-alone ⌝ }
+{
+    0
+}
+
+// The columns of this crate share no number.
+pub fn columns_apart_stands() -> u8
+    ensures { λ _. ⌜ Columns-apart ⌝ }
+{
+    0
+}
