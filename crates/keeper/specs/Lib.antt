@@ -6,3 +6,4 @@ pub mod Sized
 pub mod Answers
 pub mod Linking
 pub mod Own
+pub mod Meaning

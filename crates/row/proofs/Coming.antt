@@ -89,6 +89,8 @@ module _ (m : List ℕ) (k : ℕ) (S : Stands m) (n : has (cards m) k ≡ false)
     cards-are = pushed _ _ k same-card (ap (cell m′ ids) (A .slot-here) ∙ A .id-here);
     slots-are = pushed _ _ s same-slot (A .slot-here);
     is-card = A .id-here;
+    same-cards = λ t u. A .id-else t (λ z. both-ways (used m s) (free (count m) (fresh m) (fresh m′) s k _ _ _ _ _ _ _ _ (S .stands) room (took m k S room) A new)
+        (ap (used m) (sym z) ∙ u));
     was-free = free (count m) (fresh m) (fresh m′) s k _ _ _ _ _ _ _ _ (S .stands) room (took m k S room) A new;
   }
 

@@ -89,6 +89,7 @@ module _ (m : List ℕ) (S : Stands m) (s : ℕ) (u : used m s ≡ true) where
         (λ p a n e. n (card-one m S p (cell m places s) a place-below (ap (cell m ids) (e ∙ sym at-place))))
         (L .slot-before) (L .slot-moved);
     was-card = refl;
+    same-cards = L .id-same;
     was-used = u;
   }
 

@@ -42,3 +42,4 @@ pub mod Going
 pub mod Beginning
 pub mod Elsewhere
 pub mod Depending
+pub mod Named

@@ -6,19 +6,25 @@
 --   Goes-filters   a card that goes leaves the others in their order; it's refused if it isn't there
 --   Finds          a card is found if and only if it's there, and at its place
 --   Tells          what is told is the row's middle
+--   by-slot m ls   the board of the slots in the row, with these links between slots
+--   by-card m ls   the board of the cards in the row, with the same links between cards
+--   Slots-named    the board of cards is the board of slots with the cards' numbers for names, if its links are between cards
 --   Else-stays     nothing but the columns of this crate changes, and the memory keeps its length
 --   Depends        what the row means depends on the columns of this crate alone
 use mathlib.Core.Path.{_≡_}
-use mathlib.Core.List.{List, [], _∷_, _++_}
-use mathlib.Core.Bool.{Bool, true, false, cond, not}
+use mathlib.Core.List.{List, [], _∷_, _++_, map}
+use mathlib.Core.Bool.{Bool, true, false, cond, _&&_, not}
 use Prim.Native.Nat.{ℕ, _+_, _≤_, _<_}
 use lib.Dec.{eqb}
 use lib.ListN.{length, take, drop, replicate}
 use Rattle.std.specs.declared.option.Option.the-variants.{Some, None}
 use Rattle.std.specs.declared.result.Result.the-variants.{Ok}
 use Rattle.row.specs.declared.board.Refusal.the-variants.{Missing, Exists, Full}
+use Rattle.row.specs.declared.board.Link.{Link}
 use Rattle.row.specs.declared.column.Column.{Column}
-use Rattle.row.specs.Lists.{has, place, distinct, filter}
+use Rattle.row.specs.Lists.{every, has, place, distinct, filter}
+use Rattle.row.specs.Board.{Board}
+use Rattle.row.specs.Renaming.{named, renamed, Naming}
 use Rattle.row.specs.Columns.{cell, apart}
 use Rattle.row.specs.Layout.{tally, ids, chain, slots, places}
 use Rattle.row.specs.Lookup.{found}
@@ -38,6 +44,7 @@ pub record Came (m : List ℕ) (k s : ℕ) (m′ : List ℕ) : Type 0 where
   pub cards-are : cards m′ ≡ cards m ++ k ∷ []
   pub slots-are : row-of m′ ≡ row-of m ++ s ∷ []
   pub is-card : cell m′ ids s ≡ k
+  pub same-cards : (t : ℕ) → used m t ≡ true → cell m′ ids t ≡ cell m ids t
   pub was-free : used m s ≡ false
 
 abbrev pub Comes-appends : Type 0
@@ -53,6 +60,7 @@ pub record Gone (m : List ℕ) (k s : ℕ) (m′ : List ℕ) : Type 0 where
   pub cards-are : cards m′ ≡ filter (λ j. not (eqb j k)) (cards m)
   pub slots-are : row-of m′ ≡ filter (λ j. not (eqb j s)) (row-of m)
   pub was-card : cell m ids s ≡ k
+  pub same-cards : (t : ℕ) → cell m′ ids t ≡ cell m ids t
   pub was-used : used m s ≡ true
 
 abbrev pub Goes-filters : Type 0
@@ -72,6 +80,17 @@ abbrev pub Tells : Type 0
 Tells =
     (m : List ℕ) (p n : ℕ) (out : List ℕ) → Stands m → p + n ≤ length (cards m) → n ≤ length out →
     (told-count m p n out ≡ n) × (told m p n out ≡ take n (drop p (cards m)) ++ drop n out)
+
+abbrev pub by-slot : List ℕ → List Link → Board
+by-slot m ls = record { row = row-of m; links = ls }
+
+abbrev pub by-card : List ℕ → List Link → Board
+by-card m ls = record { row = cards m; links = map (named (cell m ids)) ls }
+
+abbrev pub Slots-named : Type 0
+Slots-named =
+    (m : List ℕ) (ls : List Link) → Stands m → every (λ l. used m (l .from) && used m (l .to)) ls ≡ true →
+    (by-card m ls ≡ renamed (cell m ids) (by-slot m ls)) × Naming (cell m ids) (used m) (by-slot m ls)
 
 -- m′ is m but for the columns of this crate
 pub record Only-row (m m′ : List ℕ) : Type 0 where

@@ -1,5 +1,5 @@
 // What is proved of the row in its memory: a function for each statement, whose contract it is.
-ghost use Rattle.row.specs.Laws.{Begins, Apart, Comes-appends, Goes-filters, Finds, Tells, Else-stays, Depends};
+ghost use Rattle.row.specs.Laws.{Begins, Apart, Comes-appends, Goes-filters, Finds, Tells, Slots-named, Else-stays, Depends};
 
 // Zeros stand, with no cards.
 pub fn begins_stands() -> u8
@@ -53,6 +53,13 @@ pub fn else_stays_stands() -> u8
 // What the row means depends on the columns of this crate alone.
 pub fn depends_stands() -> u8
     ensures { λ _. ⌜ Depends ⌝ }
+{
+    0
+}
+
+// The board of cards is the board of slots with other names.
+pub fn slots_named_stands() -> u8
+    ensures { λ _. ⌜ Slots-named ⌝ }
 {
     0
 }

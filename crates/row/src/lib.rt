@@ -28,6 +28,7 @@ pub use laws::depends_stands;
 pub use laws::else_stays_stands;
 pub use laws::finds_stands;
 pub use laws::goes_filters_stands;
+pub use laws::slots_named_stands;
 pub use laws::tells_stands;
 pub use layout::CARDS;
 pub use layout::TALLY;

@@ -1,0 +1,122 @@
+-- What an operation on the row leaves of the links and the marks, and what one on the links leaves of the row and the marks.
+use mathlib.Core.Path.{_≡_, refl, sym, ap, subst, _∙_}
+use mathlib.Core.Bool.{Bool, true, false}
+use mathlib.Core.List.{List}
+use Prim.Native.Nat.{ℕ, _+_, _≤_, _<_}
+use native.Mathlib.Omega.{arith}
+use lib.ListN.{length}
+use Rattle.row.specs.declared.column.Column.{Column}
+use Rattle.row.specs.Board.{fine}
+use Rattle.row.specs.Columns.{cell, written}
+use Rattle.row.specs.Layout.{tally, ids, chain, slots, places}
+use Rattle.row.specs.Meaning.{Stands}
+use Rattle.row.specs.Laws.{Only-row, Same-row}
+use Rattle.row.proofs.Cells.{length-written, cell-other, cell-apart}
+use Rattle.links.specs.declared.chain.Chain.{Chain}
+use Rattle.links.specs.declared.chain.Chain.the-variants.{Out, In, Pair}
+use Rattle.links.specs.Layout.{pointers, froms, tos}
+use Rattle.links.specs.Meaning.{Tabled}
+use Rattle.links.specs.Frames.{Same, Alike, Only}
+use Rattle.search.specs.Layout.{fore, hind, via}
+use Rattle.search.specs.Marks.{marked}
+use Rattle.search.specs.MarkLaws.{Summed}
+use Rattle.search.specs.Meaning.{slot-board, Ready}
+use Rattle.search.proofs.Frames.{cells-alone}
+
+-- the marks are as they were
+pub record Unmarked (m m′ : List ℕ) : Type 0 where
+  pub as-long : length m′ ≡ length m
+  pub same-fore : (i : ℕ) → cell m′ fore i ≡ cell m fore i
+  pub same-hind : (i : ℕ) → cell m′ hind i ≡ cell m hind i
+
+module _ (m m′ : List ℕ) where
+  pub row-alike : Only-row m m′ → Alike m m′
+  row-alike o = record {
+    same = record {
+      as-long = o .as-long;
+      same-live = o .tallies 2 (omega arith);
+      same-end = o .tallies 3 (omega arith);
+      same-from = λ l. o .others froms l refl refl refl refl refl;
+      same-to = λ l. o .others tos l refl refl refl refl refl
+    };
+    pointing = pointing-at
+  }
+    where
+    pointing-at : (c : Chain) (p : ℕ) → cell m′ (pointers c) p ≡ cell m (pointers c) p
+    pointing-at Out p = o .others (pointers Out) p refl refl refl refl refl
+    pointing-at In p = o .others (pointers In) p refl refl refl refl refl
+    pointing-at Pair p = o .others (pointers Pair) p refl refl refl refl refl
+
+  pub row-unmarked : Only-row m m′ → Unmarked m m′
+  row-unmarked o = record {
+    as-long = o .as-long;
+    same-fore = λ i. o .others fore i refl refl refl refl refl;
+    same-hind = λ i. o .others hind i refl refl refl refl refl
+  }
+
+  pub links-same : Only m m′ → Same-row m m′
+  links-same o = record {
+    as-long = o .as-long;
+    same-count = o .tallies 0 (λ z. omega arith) (λ z. omega arith);
+    same-fresh = o .tallies 1 (λ z. omega arith) (λ z. omega arith);
+    same-ids = λ j. o .others ids j refl;
+    same-chain = λ j. o .others chain j refl;
+    same-slots = λ j. o .others slots j refl;
+    same-places = λ j. o .others places j refl
+  }
+
+  pub links-unmarked : Only m m′ → Unmarked m m′
+  links-unmarked o = record { as-long = o .as-long; same-fore = λ i. o .others fore i refl; same-hind = λ i. o .others hind i refl }
+
+  pub ready-again : Ready m → Unmarked m m′ → Stands m′ → Tabled m′ → fine (slot-board m′) ≡ true → Ready m′
+  ready-again R u S T f =
+      let a = cells-alone m m′ fore (u .same-fore) in
+      let b = cells-alone m m′ hind (u .same-hind) in
+      let l = u .as-long in
+      record {
+        stands = S;
+        tabled = T;
+        fore-summed = a .1 (let w = R .fore-summed .lies in omega arith) (R .fore-summed);
+        hind-summed = b .1 (let w = R .hind-summed .lies in omega arith) (R .hind-summed);
+        fore-none = λ p. a .0 p ∙ R .fore-none p;
+        hind-none = λ p. b .0 p ∙ R .hind-none p;
+        via-room = let w = R .via-room in omega arith;
+        fine-so = f
+      }
+
+-- a number of the tally that is the keeper's own
+module _ (m : List ℕ) (k : ℕ) where
+  pub pending-same : Same-row m (written m tally 4 k)
+  pending-same = record {
+    as-long = length-written m tally 4 k;
+    same-count = cell-other m tally 4 0 k (λ z. omega arith);
+    same-fresh = cell-other m tally 4 1 k (λ z. omega arith);
+    same-ids = λ j. cell-apart m tally ids 4 j k refl;
+    same-chain = λ j. cell-apart m tally chain 4 j k refl;
+    same-slots = λ j. cell-apart m tally slots 4 j k refl;
+    same-places = λ j. cell-apart m tally places 4 j k refl
+  }
+
+  pub pending-alike : Alike m (written m tally 4 k)
+  pending-alike = record {
+    same = record {
+      as-long = length-written m tally 4 k;
+      same-live = cell-other m tally 4 2 k (λ z. omega arith);
+      same-end = cell-other m tally 4 3 k (λ z. omega arith);
+      same-from = λ l. cell-apart m tally froms 4 l k refl;
+      same-to = λ l. cell-apart m tally tos 4 l k refl
+    };
+    pointing = pointing-at
+  }
+    where
+    pointing-at : (c : Chain) (p : ℕ) → cell (written m tally 4 k) (pointers c) p ≡ cell m (pointers c) p
+    pointing-at Out p = cell-apart m tally (pointers Out) 4 p k refl
+    pointing-at In p = cell-apart m tally (pointers In) 4 p k refl
+    pointing-at Pair p = cell-apart m tally (pointers Pair) 4 p k refl
+
+  pub pending-unmarked : Unmarked m (written m tally 4 k)
+  pending-unmarked = record {
+    as-long = length-written m tally 4 k;
+    same-fore = λ i. cell-apart m tally fore 4 i k refl;
+    same-hind = λ i. cell-apart m tally hind 4 i k refl
+  }
