@@ -84,6 +84,13 @@ module _ (m m′ : List ℕ) where
         fine-so = f
       }
 
+pub unmarked-on : (m m₁ m₂ : List ℕ) → Unmarked m m₁ → Unmarked m₁ m₂ → Unmarked m m₂
+unmarked-on m m₁ m₂ a b = record {
+  as-long = b .as-long ∙ a .as-long;
+  same-fore = λ i. b .same-fore i ∙ a .same-fore i;
+  same-hind = λ i. b .same-hind i ∙ a .same-hind i
+}
+
 -- a number of the tally that is the keeper's own
 module _ (m : List ℕ) (k : ℕ) where
   pub pending-same : Same-row m (written m tally 4 k)

@@ -14,3 +14,4 @@ pub mod Knowing
 pub mod Carrying
 pub mod Saying
 pub mod CardsCome
+pub mod CardsGo

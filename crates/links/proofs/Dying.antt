@@ -66,7 +66,8 @@ module _ (m m′ : List ℕ) (l : ℕ) (s : Died m m′ l) where
   pub at-died : (was : ℕ → Link) (c : Chain) (p k e : ℕ) → At m was c p k e → At m′ was c p k e
   at-died was c p k e a = record {
     inside = omega (arith, s .same-end, a .inside);
-    skips = rw (s .pointing c p) (skips-same (λ j. key c (was j)) (λ j. key c (was j)) (dead m) (dead m′) k e (cell m (pointers c) p) (a .skips) (λ j b. refl) (λ j b d. died-more j d));
+    skips = rw (s .pointing c p)
+        (skips-same (λ j. key c (was j)) (λ j. key c (was j)) (dead m) (dead m′) k e (cell m (pointers c) p) (a .skips) (λ j b. refl) (λ j b d. died-more j d));
   }
 
 -- the code's way

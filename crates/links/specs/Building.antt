@@ -5,7 +5,8 @@
 --   added m l x       both, and counted
 --   appended m x      the link x put at the table's end; nothing if the table is full
 --   blanked f m c i   zeros to f cells of a column, from i on
---   emptied m         no heads, no entries in use
+--   headless m c      no heads of a family of chains
+--   emptied m         no heads at all, no entries in use
 --   carried m l       what the entry l holds put at the table's end, if it lives
 --   refilled f m i    so for f entries, from i on
 --   rebuilt m         the table built again of its living links

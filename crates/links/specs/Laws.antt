@@ -77,7 +77,7 @@ abbrev pub Walks : Type 0
 Walks = (m : List ℕ) (was : ℕ → Link) (c : Chain) → Holds m was
     → ((k : ℕ) → k < heads c → At m was c k k (end m)) × ((p k e : ℕ) → At m was c p k e → Told m was c p k e (met m c p))
 
--- by either end of a link alike; so what is met by either is what is linked
+-- the second and the third: what a walk meets at the links' other ends is what is linked
 abbrev pub Gives : Type 0
 Gives = (m : List ℕ)
     → ((c : Chain) (k : ℕ) → map (link-at m) (lives m c k (end m)) ≡ reverse (filter (λ y. eqb (key c y) k) (edges m)))
