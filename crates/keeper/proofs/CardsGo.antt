@@ -53,7 +53,7 @@ use Rattle.keeper.proofs.Saying.{run-done, refuses-kept, missing-is-not}
 use Rattle.keeper.proofs.CardsCome.{same-names}
 
 -- other names that are the same
-all-named : (f g : ℕ → ℕ) → ((t : ℕ) → g t ≡ f t) → (ls : List Link) → map (named g) ls ≡ map (named f) ls
+pub all-named : (f g : ℕ → ℕ) → ((t : ℕ) → g t ≡ f t) → (ls : List Link) → map (named g) ls ≡ map (named f) ls
 all-named f g h [] = refl
 all-named f g h (l ∷ ls) = ap₂ _∷_ (rw (h (l .from), h (l .to)) refl) (all-named f g h ls)
 

@@ -15,3 +15,4 @@ pub mod Carrying
 pub mod Saying
 pub mod CardsCome
 pub mod CardsGo
+pub mod Placing

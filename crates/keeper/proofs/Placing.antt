@@ -1,0 +1,139 @@
+-- The places of two cards are asked for: they are shown, and the memory means the same board.
+use mathlib.Core.Path.{_≡_, refl, sym, ap, ap₂, subst, _∙_}
+use mathlib.Core.Bool.{Bool, true, false, cond, _&&_, _||_, not}
+use mathlib.Core.List.{List, [], _∷_, _++_, map}
+use mathlib.Core.Logic.{_⊎_, inl, inr}
+use Prim.Native.Nat.{ℕ, _≤_, _<_}
+use native.Mathlib.Omega.{arith}
+use lib.Dec.{eqb, leb}
+use lib.ListN.{length}
+use Rattle.std.specs.declared.option.Option.the-variants.{Some, None}
+use Rattle.std.specs.declared.result.Result.the-variants.{Ok, Err}
+use Rattle.std.proofs.shelf.Tests.{cases-bool, cases-lt, le-leb, lt-leb, and-parts, both-ways}
+use Rattle.row.specs.declared.board.Link.{Link}
+use Rattle.row.specs.declared.board.Command.the-variants.{Places}
+use Rattle.row.specs.declared.board.Refusal.the-variants.{Missing}
+use Rattle.row.specs.Lists.{every, has, place, filter}
+use Rattle.row.specs.Board.{Board, fine}
+use Rattle.row.specs.Commands.{refusal, may-be, row-before, links-after, told-rows}
+use Rattle.row.specs.Columns.{cell}
+use Rattle.row.specs.Layout.{tally, ids, slots, count}
+use Rattle.std.proofs.shelf.Counted.{length-map-counting}
+use Rattle.row.specs.Columns.{written}
+use Rattle.row.specs.Moves.{place-found}
+use Rattle.row.specs.Meaning.{used, row-of, cards, Stands}
+use Rattle.row.specs.Renaming.{named, renamed}
+use Rattle.row.specs.Laws.{Gone, Only-row, Same-row}
+use Rattle.row.proofs.Filters.{same-itself}
+use Rattle.row.proofs.Staying.{stays}
+use Rattle.row.proofs.Present.{length-cards}
+use Rattle.row.proofs.Named.{cards-named}
+use Rattle.row.proofs.Going.{goes-filters}
+use Rattle.row.proofs.Depending.{depends}
+use Rattle.row.proofs.Closes.{used-below}
+use Rattle.row.proofs.Named.{has-slot}
+use Rattle.row.proofs.Elsewhere.{else-stays}
+use Rattle.links.specs.Meaning.{edges, once, Tabled}
+use Rattle.links.specs.Removing.{removed-all}
+use Rattle.links.specs.Frames.{Only}
+use Rattle.links.proofs.Sameness.{edges-alike, tabled-alike}
+use Rattle.links.proofs.Operating.{removes-all, stays-once}
+use Rattle.links.proofs.Bounding.{writes-only}
+use Rattle.search.specs.Meaning.{slot-board, Ready}
+use Rattle.keeper.specs.declared.event.Act.the-variants.{Done}
+use Rattle.keeper.specs.Promise.{small-command}
+use Rattle.row.proofs.Cells.{cell-same}
+use Rattle.row.proofs.Present.{finds}
+use Rattle.keeper.specs.declared.event.Event.the-variants.{Said, Next}
+use Rattle.keeper.specs.declared.event.Act.the-variants.{Shows}
+use Rattle.keeper.specs.Answers.{quiet, ends, refuses, pending, leaves-pending}
+use Rattle.keeper.specs.Own.{shown-places, said, own}
+use Rattle.keeper.specs.Meaning.{card-board, Means}
+use Rattle.keeper.proofs.Unmoved.{goes-keeps}
+use Rattle.keeper.proofs.Simulation.{Step-kept}
+use Rattle.keeper.proofs.Cases.{places-kept}
+use Rattle.keeper.proofs.Knowing.{names, row-is, fine-cards}
+use Rattle.keeper.proofs.Carrying.{pending-same, pending-alike, pending-unmarked, unmarked-on, ready-again}
+use Rattle.keeper.proofs.Saying.{step-said, step-next, went-done, refuses-kept, missing-is-not}
+use Rattle.keeper.proofs.Unroll.{shows-done}
+use Rattle.keeper.proofs.CardsGo.{all-named}
+
+-- what is pending is no part of what the memory means
+module _ (m : List ℕ) (R : Ready m) (k : ℕ) where
+  abbrev w : List ℕ
+  w = leaves-pending m k
+
+  pub pending-edges : edges w ≡ edges m
+  pending-edges = edges-alike m w (pending-alike m k .same)
+
+  pub pending-ready : Ready w
+  pending-ready =
+      let d = depends m w (pending-same m k) in
+      ready-again m w R (pending-unmarked m k) (d .0 (R .stands)) (tabled-alike m w (pending-alike m k) (R .tabled))
+      (subst (λ (ls : List Link). fine (record { row = row-of w; links = ls }) ≡ true) (sym pending-edges)
+      (subst (λ (xs : List ℕ). fine (record { row = xs; links = edges m }) ≡ true) (sym (d .2)) (R .fine-so)))
+
+  pub pending-board : card-board m ≡ card-board w
+  pending-board =
+      let d = depends m w (pending-same m k) in
+      ap₂ (λ (xs : List ℕ) (ls : List Link). record { row = xs; links = ls })
+      (row-is m R ∙ sym (d .1) ∙ cards-named w)
+      (sym (ap (map (named (cell w ids))) pending-edges ∙ all-named (cell m ids) (cell w ids) (pending-same m k .same-ids) (edges m)))
+
+  pub is-pending : pending w ≡ k
+  is-pending = cell-same m tally 4 k (omega arith) (let l = R .stands .long in omega arith)
+
+-- and so it is when nothing is pending any more
+pub settles : (m : List ℕ) (R : Ready m) → once (edges m) ≡ true → (j : ℕ) → Means (leaves-pending (leaves-pending m j) 0) (card-board m)
+settles m R o j =
+    let Q = pending-ready m R j in
+    record {
+      ready = pending-ready (leaves-pending m j) Q 0;
+      single = ap once (pending-edges (leaves-pending m j) Q 0 ∙ pending-edges m R j) ∙ o;
+      idle = is-pending (leaves-pending m j) Q 0;
+      is = pending-board m R j ∙ pending-board (leaves-pending m j) Q 0
+    }
+
+module _ (m : List ℕ) (R : Ready m) (o : once (edges m) ≡ true) (i : pending m ≡ 0) (a b : ℕ) (sm : small-command (Places a b) ≡ true) where
+  abbrev r : Board
+  r = card-board m
+
+  has-row : (k : ℕ) → has (r .row) k ≡ has (cards m) k
+  has-row k = ap (λ (xs : List ℕ). has xs k) (row-is m R)
+
+  place-row : (k : ℕ) → place (r .row) k ≡ place (cards m) k
+  place-row k = ap (λ (xs : List ℕ). place xs k) (row-is m R)
+
+  at : (k : ℕ) → has (cards m) k ≡ true → place-found m k ≡ Some (place (r .row) k)
+  at k h = finds m k (R .stands) .0 ∙ rw (h, place-row k)
+
+  nowhere : (k : ℕ) → has (cards m) k ≡ false → place-found m k ≡ None
+  nowhere k n = finds m k (R .stands) .0 ∙ rw n
+
+  same : Means m r
+  same = record { ready = R; single = o; idle = i; is = refl }
+
+  first-missing : has (cards m) a ≡ false → Step-kept own 3 Means m r (Places a b)
+  unfolding refusal said
+  first-missing n = refuses-kept Means m m r (Places a b) Missing i sm (rw (has-row a ∙ n)) missing-is-not (rw (nowhere a n)) same
+
+  second-missing : has (cards m) a ≡ true → has (cards m) b ≡ false → Step-kept own 3 Means m r (Places a b)
+  unfolding refusal said
+  second-missing h n =
+      refuses-kept Means m m r (Places a b) Missing i sm (rw (has-row a ∙ h, has-row b ∙ n)) missing-is-not (rw (at a h, nowhere b n)) same
+
+  shown : has (cards m) a ≡ true → has (cards m) b ≡ true → Step-kept own 3 Means m r (Places a b)
+  unfolding refusal said
+  shown h g =
+      let m₁ = leaves-pending m 1 in
+      let ks = place (r .row) a ∷ place (r .row) b ∷ [] in
+      let e = step-said m (Places a b) (record { act = Shows 2; memory = m₁; numbers = ks }) i sm (rw (at a h, at b g)) in
+      let f = step-next m₁ (quiet (ends Done (leaves-pending m₁ 0))) (ap quiet (went-done m₁ (is-pending m R 1))) in
+      places-kept own 3 Means m r (leaves-pending m₁ 0) (fine-cards m R) a b (rw (has-row a ∙ h, has-row b ∙ g))
+      (shows-done own m m₁ (leaves-pending m₁ 0) (Said (Places a b)) ks e f) (settles m R o 1)
+
+  pub places-means : Step-kept own 3 Means m r (Places a b)
+  places-means = elim (cases-bool (has (cards m) a)) [
+    | inl h ↦ elim (cases-bool (has (cards m) b)) [ inl g ↦ shown h g | inr n ↦ second-missing h n ]
+    | inr n ↦ first-missing n
+  ]
