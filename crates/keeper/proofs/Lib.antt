@@ -16,3 +16,5 @@ pub mod Saying
 pub mod CardsCome
 pub mod CardsGo
 pub mod Placing
+pub mod TwoCards
+pub mod Unlinking
