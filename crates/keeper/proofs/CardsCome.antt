@@ -105,15 +105,15 @@ module _ (m : List ℕ) (R : Ready m) (o : once (edges m) ≡ true) (i : pending
         subst (λ (ls : List Link). fine (record { row = row-of m′; links = ls }) ≡ true) (sym same-edges)
         (subst (λ (xs : List ℕ). fine (record { row = xs; links = edges m }) ≡ true) (sym (C .slots-are)) f)
       where
-      not-there : has (row-of m) (law .0) ≡ false
-      not-there = elim (cases-bool (has (row-of m) (law .0))) [ inl t ↦ absurd (both-ways _ (C .was-free) (in-row-used m R (law .0) t)) | inr t ↦ t ]
+        not-there : has (row-of m) (law .0) ≡ false
+        not-there = elim (cases-bool (has (row-of m) (law .0))) [ inl t ↦ absurd (both-ways _ (C .was-free) (in-row-used m R (law .0) t)) | inr t ↦ t ]
 
     board-after : record { row = (r .row) ++ k ∷ []; links = r .links } ≡ card-board m′
     board-after =
         let a : (r .row) ++ k ∷ [] ≡ card-board m′ .row =
-            ap (λ (xs : List ℕ). xs ++ k ∷ []) (row-is m R) ∙ sym (C .cards-are) ∙ cards-named m′ in
+        ap (λ (xs : List ℕ). xs ++ k ∷ []) (row-is m R) ∙ sym (C .cards-are) ∙ cards-named m′ in
         let b : r .links ≡ card-board m′ .links =
-            sym (ap (map (named (cell m′ ids))) same-edges ∙ same-names (cell m ids) (cell m′ ids) (used m) (C .same-cards) (edges m) (ends-used m R)) in
+        sym (ap (map (named (cell m′ ids))) same-edges ∙ same-names (cell m ids) (cell m′ ids) (used m) (C .same-cards) (edges m) (ends-used m R)) in
         ap₂ (λ (xs : List ℕ) (ls : List Link). record { row = xs; links = ls }) a b
 
     means : Means m′ (record { row = (r .row) ++ k ∷ []; links = r .links })
@@ -121,7 +121,7 @@ module _ (m : List ℕ) (R : Ready m) (o : once (edges m) ≡ true) (i : pending
       ready = ready-again m m′ R (row-unmarked m m′ only) (C .stands) (tabled-alike m m′ (row-alike m m′ only) (R .tabled)) fine-after;
       single = ap once same-edges ∙ o;
       idle = only .tallies 4 (omega arith) ∙ i;
-      is = board-after
+      is = board-after;
     }
 
     comes-in : Step-kept own 3 Means m r (Comes k)

@@ -121,12 +121,12 @@ module _ (m : List ℕ) (R : Ready m) (o : once (edges m) ≡ true) (i : pending
     board-after : new ≡ card-board m′
     board-after =
         let a : filter (λ j. not (eqb j k)) (r .row) ≡ card-board m′ .row =
-            ap (filter (λ j. not (eqb j k))) (row-is m R) ∙ sym (G .cards-are) ∙ sym (D .1) ∙ cards-named m′ in
+        ap (filter (λ j. not (eqb j k))) (row-is m R) ∙ sym (G .cards-are) ∙ sym (D .1) ∙ cards-named m′ in
         let b : filter (λ (l : Link). not (eqb (l .from) k || eqb (l .to) k)) (r .links) ≡ card-board m′ .links =
-            subst (λ (x : ℕ). filter (λ (l : Link). not (eqb (l .from) x || eqb (l .to) x)) (r .links) ≡ card-board m′ .links) (G .was-card)
-            (sym (names m R .links-without-named s (G .was-used))
-            ∙ sym (all-named (cell m ids) (cell m′ ids) same-ids (filter (λ (l : Link). not (eqb (l .from) s || eqb (l .to) s)) (edges m)))
-            ∙ ap (map (named (cell m′ ids))) (sym edges-are)) in
+        subst (λ (x : ℕ). filter (λ (l : Link). not (eqb (l .from) x || eqb (l .to) x)) (r .links) ≡ card-board m′ .links) (G .was-card)
+        (sym (names m R .links-without-named s (G .was-used))
+        ∙ sym (all-named (cell m ids) (cell m′ ids) same-ids (filter (λ (l : Link). not (eqb (l .from) s || eqb (l .to) s)) (edges m)))
+        ∙ ap (map (named (cell m′ ids))) (sym edges-are)) in
         ap₂ (λ (xs : List ℕ) (ls : List Link). record { row = xs; links = ls }) a b
 
     means : Means m′ new
@@ -134,7 +134,7 @@ module _ (m : List ℕ) (R : Ready m) (o : once (edges m) ≡ true) (i : pending
       ready = ready-again m m′ R (unmarked-on m m₁ m′ (row-unmarked m m₁ only-row) (links-unmarked m₁ m′ only)) (D .0 (G .stands)) (tabled .0) fine-after;
       single = ap once edges-are ∙ stays-once .2 _ (edges m) o;
       idle = only .tallies 4 (λ z. omega arith) (λ z. omega arith) ∙ only-row .tallies 4 (omega arith) ∙ i;
-      is = board-after
+      is = board-after;
     }
 
     goes-out : Step-kept own 3 Means m r (Goes k)

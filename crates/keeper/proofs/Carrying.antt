@@ -37,21 +37,21 @@ module _ (m m′ : List ℕ) where
       same-live = o .tallies 2 (omega arith);
       same-end = o .tallies 3 (omega arith);
       same-from = λ l. o .others froms l refl refl refl refl refl;
-      same-to = λ l. o .others tos l refl refl refl refl refl
+      same-to = λ l. o .others tos l refl refl refl refl refl;
     };
-    pointing = pointing-at
+    pointing = pointing-at;
   }
     where
-    pointing-at : (c : Chain) (p : ℕ) → cell m′ (pointers c) p ≡ cell m (pointers c) p
-    pointing-at Out p = o .others (pointers Out) p refl refl refl refl refl
-    pointing-at In p = o .others (pointers In) p refl refl refl refl refl
-    pointing-at Pair p = o .others (pointers Pair) p refl refl refl refl refl
+      pointing-at : (c : Chain) (p : ℕ) → cell m′ (pointers c) p ≡ cell m (pointers c) p
+      pointing-at Out p = o .others (pointers Out) p refl refl refl refl refl
+      pointing-at In p = o .others (pointers In) p refl refl refl refl refl
+      pointing-at Pair p = o .others (pointers Pair) p refl refl refl refl refl
 
   pub row-unmarked : Only-row m m′ → Unmarked m m′
   row-unmarked o = record {
     as-long = o .as-long;
     same-fore = λ i. o .others fore i refl refl refl refl refl;
-    same-hind = λ i. o .others hind i refl refl refl refl refl
+    same-hind = λ i. o .others hind i refl refl refl refl refl;
   }
 
   pub links-same : Only m m′ → Same-row m m′
@@ -62,7 +62,7 @@ module _ (m m′ : List ℕ) where
     same-ids = λ j. o .others ids j refl;
     same-chain = λ j. o .others chain j refl;
     same-slots = λ j. o .others slots j refl;
-    same-places = λ j. o .others places j refl
+    same-places = λ j. o .others places j refl;
   }
 
   pub links-unmarked : Only m m′ → Unmarked m m′
@@ -81,14 +81,14 @@ module _ (m m′ : List ℕ) where
         fore-none = λ p. a .0 p ∙ R .fore-none p;
         hind-none = λ p. b .0 p ∙ R .hind-none p;
         via-room = let w = R .via-room in omega arith;
-        fine-so = f
+        fine-so = f;
       }
 
 pub unmarked-on : (m m₁ m₂ : List ℕ) → Unmarked m m₁ → Unmarked m₁ m₂ → Unmarked m m₂
 unmarked-on m m₁ m₂ a b = record {
   as-long = b .as-long ∙ a .as-long;
   same-fore = λ i. b .same-fore i ∙ a .same-fore i;
-  same-hind = λ i. b .same-hind i ∙ a .same-hind i
+  same-hind = λ i. b .same-hind i ∙ a .same-hind i;
 }
 
 -- a number of the tally that is the keeper's own
@@ -101,7 +101,7 @@ module _ (m : List ℕ) (k : ℕ) where
     same-ids = λ j. cell-apart m tally ids 4 j k refl;
     same-chain = λ j. cell-apart m tally chain 4 j k refl;
     same-slots = λ j. cell-apart m tally slots 4 j k refl;
-    same-places = λ j. cell-apart m tally places 4 j k refl
+    same-places = λ j. cell-apart m tally places 4 j k refl;
   }
 
   pub pending-alike : Alike m (written m tally 4 k)
@@ -111,19 +111,19 @@ module _ (m : List ℕ) (k : ℕ) where
       same-live = cell-other m tally 4 2 k (λ z. omega arith);
       same-end = cell-other m tally 4 3 k (λ z. omega arith);
       same-from = λ l. cell-apart m tally froms 4 l k refl;
-      same-to = λ l. cell-apart m tally tos 4 l k refl
+      same-to = λ l. cell-apart m tally tos 4 l k refl;
     };
-    pointing = pointing-at
+    pointing = pointing-at;
   }
     where
-    pointing-at : (c : Chain) (p : ℕ) → cell (written m tally 4 k) (pointers c) p ≡ cell m (pointers c) p
-    pointing-at Out p = cell-apart m tally (pointers Out) 4 p k refl
-    pointing-at In p = cell-apart m tally (pointers In) 4 p k refl
-    pointing-at Pair p = cell-apart m tally (pointers Pair) 4 p k refl
+      pointing-at : (c : Chain) (p : ℕ) → cell (written m tally 4 k) (pointers c) p ≡ cell m (pointers c) p
+      pointing-at Out p = cell-apart m tally (pointers Out) 4 p k refl
+      pointing-at In p = cell-apart m tally (pointers In) 4 p k refl
+      pointing-at Pair p = cell-apart m tally (pointers Pair) 4 p k refl
 
   pub pending-unmarked : Unmarked m (written m tally 4 k)
   pending-unmarked = record {
     as-long = length-written m tally 4 k;
     same-fore = λ i. cell-apart m tally fore 4 i k refl;
-    same-hind = λ i. cell-apart m tally hind 4 i k refl
+    same-hind = λ i. cell-apart m tally hind 4 i k refl;
   }

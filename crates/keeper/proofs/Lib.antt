@@ -18,3 +18,4 @@ pub mod CardsGo
 pub mod Placing
 pub mod TwoCards
 pub mod Unlinking
+pub mod Forward

@@ -91,7 +91,7 @@ settles m R o j =
       ready = pending-ready (leaves-pending m j) Q 0;
       single = ap once (pending-edges (leaves-pending m j) Q 0 ∙ pending-edges m R j) ∙ o;
       idle = is-pending (leaves-pending m j) Q 0;
-      is = pending-board m R j ∙ pending-board (leaves-pending m j) Q 0
+      is = pending-board m R j ∙ pending-board (leaves-pending m j) Q 0;
     }
 
 module _ (m : List ℕ) (R : Ready m) (o : once (edges m) ≡ true) (i : pending m ≡ 0) (a b : ℕ) (sm : small-command (Places a b) ≡ true) where

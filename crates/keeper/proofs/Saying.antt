@@ -14,6 +14,7 @@ use Rattle.row.specs.declared.board.Refusal.the-variants.{Missing, Exists, Cycl
 use Rattle.row.specs.Board.{Board}
 use Rattle.row.specs.Commands.{number, refusal}
 use Rattle.keeper.specs.declared.event.Event.the-variants.{Said, Next}
+use Rattle.keeper.specs.declared.event.Reason.the-variants.{Board as ByBoard}
 use Rattle.keeper.specs.declared.event.Act.the-variants.{Done, Refused}
 use Rattle.keeper.specs.Engine.{Step, action-of, done, refused, run-of, ran}
 use Rattle.keeper.specs.Promise.{small-command}
@@ -37,6 +38,10 @@ step-next m a e = guarded-next steps m _ (ap step-of (answer-next m ∙ e))
 pub went-done : (m : List ℕ) → pending m ≡ 1 → went-on m ≡ ends Done (leaves-pending m 0)
 unfolding went-on
 went-done m e = rw (eq-eqb (pending m) 1 e)
+
+pub went-round : (m : List ℕ) → pending m ≡ 2 → went-on m ≡ ends (Refused (ByBoard Cycle)) (leaves-pending m 0)
+unfolding went-on
+went-round m e = rw (ne-eqb (pending m) 1 (λ z. omega arith), eq-eqb (pending m) 2 e)
 
 -- done, or refused, at once
 pub run-done : (m m₁ : List ℕ) (c : Command) → pending m ≡ 0 → small-command c ≡ true → said m c ≡ quiet (ends Done m₁) → run-of 3 own m c ≡ ran m₁ [] [] 0

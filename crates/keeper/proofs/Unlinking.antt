@@ -108,10 +108,10 @@ module _ (m : List ℕ) (R : Ready m) (o : once (edges m) ≡ true) (i : pending
       board-after =
           let a : r .row ≡ card-board m′ .row = row-is m R ∙ sym (D .1) ∙ cards-named m′ in
           let b : filter (λ (y : Link). not (eqb (y .from) (l .from) && eqb (y .to) (l .to))) (r .links) ≡ card-board m′ .links =
-              ap₂ (λ (p q : ℕ). filter (λ (y : Link). not (eqb (y .from) p && eqb (y .to) q)) (r .links)) (sym (A .card)) (sym (B .card))
-              ∙ sym (names m R .without-link-named s t (A .in-use) (B .in-use))
-              ∙ sym (all-named (cell m ids) (cell m′ ids) (links-same m m′ only .same-ids) (filter (λ (y : Link). not (joins x y)) (edges m)))
-              ∙ ap (map (named (cell m′ ids))) (sym (law .1)) in
+          ap₂ (λ (p q : ℕ). filter (λ (y : Link). not (eqb (y .from) p && eqb (y .to) q)) (r .links)) (sym (A .card)) (sym (B .card))
+          ∙ sym (names m R .without-link-named s t (A .in-use) (B .in-use))
+          ∙ sym (all-named (cell m ids) (cell m′ ids) (links-same m m′ only .same-ids) (filter (λ (y : Link). not (joins x y)) (edges m)))
+          ∙ ap (map (named (cell m′ ids))) (sym (law .1)) in
           ap₂ (λ (xs : List ℕ) (ls : List Link). record { row = xs; links = ls }) a b
 
       taken-back : Step-kept own 3 Means m r (Unlinks l)
@@ -123,7 +123,7 @@ module _ (m : List ℕ) (R : Ready m) (o : once (edges m) ≡ true) (i : pending
             ready = ready-again m m′ R (links-unmarked m m′ only) (D .0 (R .stands)) (law .0) fine-after;
             single = ap once (law .1) ∙ stays-once .2 _ (edges m) o;
             idle = only .tallies 4 (λ z. omega arith) (λ z. omega arith) ∙ i;
-            is = board-after
+            is = board-after;
           })
 
   pub unlinks-means : Step-kept own 3 Means m r (Unlinks l)

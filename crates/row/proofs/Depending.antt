@@ -31,8 +31,8 @@ module _ (n f : ℕ) (id next slot place id′ next′ slot′ place′ : ℕ �
       of = S .chains .of;
       spells = λ b l. spells-move next next′ (S .chains .of b) b b (S .chains .spells b l) (x b) (λ t h. x (8192 + t));
       once = S .chains .once;
-      holds = λ b t l. S .chains .holds b t l ∙ sym (rw (used-same t, i t) refl)
-    }
+      holds = λ b t l. S .chains .holds b t l ∙ sym (rw (used-same t, i t) refl);
+    };
   }
 
 module _ (m m′ : List ℕ) (e : Same-row m m′) where
@@ -42,7 +42,7 @@ module _ (m m′ : List ℕ) (e : Same-row m m′) where
     stands =
         subst (λ (n : ℕ). Standing n (fresh m′) (cell m′ ids) (cell m′ chain) (cell m′ slots) (cell m′ places)) (sym (e .same-count))
         (subst (λ (n : ℕ). Standing (count m) n (cell m′ ids) (cell m′ chain) (cell m′ slots) (cell m′ places)) (sym (e .same-fresh))
-        (standing-same (count m) (fresh m) _ _ _ _ _ _ _ _ (e .same-ids) (e .same-chain) (e .same-slots) (e .same-places) (S .stands)))
+        (standing-same (count m) (fresh m) _ _ _ _ _ _ _ _ (e .same-ids) (e .same-chain) (e .same-slots) (e .same-places) (S .stands)));
   }
 
   listed : (g g′ : ℕ → ℕ) → ((j : ℕ) → g′ j ≡ g j) → map g′ (counting 0 (count m′)) ≡ map g (counting 0 (count m))
@@ -50,8 +50,8 @@ module _ (m m′ : List ℕ) (e : Same-row m m′) where
 
 pub depends : Depends
 depends m m′ e = (
-    stands-same m m′ e,
-    listed m m′ e _ _ (λ j. e .same-ids (cell m′ slots j) ∙ ap (cell m ids) (e .same-slots j)),
-    listed m m′ e _ _ (e .same-slots),
-    λ s. rw (e .same-count, e .same-fresh, e .same-places s) refl,
-  )
+  stands-same m m′ e,
+  listed m m′ e _ _ (λ j. e .same-ids (cell m′ slots j) ∙ ap (cell m ids) (e .same-slots j)),
+  listed m m′ e _ _ (e .same-slots),
+  λ s. rw (e .same-count, e .same-fresh, e .same-places s) refl,
+)

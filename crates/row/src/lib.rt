@@ -31,6 +31,7 @@ pub use laws::goes_filters_stands;
 pub use laws::slots_named_stands;
 pub use laws::tells_stands;
 pub use layout::CARDS;
+pub use layout::IDS;
 pub use layout::TALLY;
 pub use lookup::find;
 pub use telling::tell;

@@ -13,3 +13,7 @@ pub mod Sweeps
 pub mod Wiping
 pub mod Frames
 pub mod Zeros
+pub mod Following
+pub mod Joining
+pub mod Rounds
+pub mod Showing

@@ -2,6 +2,7 @@
 mod layout;
 mod marks;
 mod theory;
+mod way;
 
 pub use layout::FORE;
 pub use layout::HIND;
@@ -16,7 +17,9 @@ pub use theory::fresh_memory_stands;
 pub use theory::going_down_stands;
 pub use theory::going_up_stands;
 pub use theory::removing_stands;
+pub use theory::shows_way_stands;
 pub use theory::skipping_down_stands;
 pub use theory::skipping_up_stands;
 pub use theory::wiping_stands;
 pub use theory::zeros_stands;
+pub use way::show;

@@ -1,6 +1,7 @@
 // What is proved of sets of places: a function for each statement, whose contract it is.
 ghost use Rattle.search.specs.MarkLaws.{Adding, Adding-past, Removing, Going-up, Going-down, First-of-all, Skipping-up, Skipping-down};
 ghost use Rattle.search.specs.MarkLaws.{Wiping, Zeros, Fresh-memory, Framing, Cells-alone, Columns-apart};
+ghost use Rattle.search.specs.WayLaws.{Shows-way};
 
 // A place that is added is marked from then on, and nothing else changes.
 pub fn adding_stands() -> u8
@@ -96,6 +97,13 @@ pub fn cells_alone_stands() -> u8
 // The columns of this crate share no number.
 pub fn columns_apart_stands() -> u8
     ensures { λ _. ⌜ Columns-apart ⌝ }
+{
+    0
+}
+
+// What is shown after the two searches met is a way that goes round.
+pub fn shows_way_stands() -> u8
+    ensures { λ _. ⌜ Shows-way ⌝ }
 {
     0
 }
