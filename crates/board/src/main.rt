@@ -40,7 +40,6 @@ One line is printed for each saying:
   refused 5: 5 2 3 6  the link would go round: each card in this row has to
                       stand before the next one
   refused 7           there are 8,192 cards, or 65,536 links
-  refused 9           not yet: this can't be said yet
 What is refused changes nothing.
 
 A byte that says nothing, or an end inside a saying: the lines so far, then a

@@ -38,6 +38,6 @@ pub answer-said : (m : List ℕ) (c : Command) → pending m ≡ 0 → answer m 
 unfolding answer
 answer-said m c e = rw (eq-eqb (pending m) 0 e)
 
-pub answer-next : (m : List ℕ) → answer m Next ≡ quiet (went-on m)
+pub answer-next : (m : List ℕ) → answer m Next ≡ went-on m
 unfolding answer
 answer-next m = refl

@@ -108,8 +108,8 @@ module _ (m : List ℕ) (R : Ready m) (o : once (edges m) ≡ true) (i : pending
           let m₁ = leaves-pending m 2 in
           let ld : leads r (l .to) (l .from) ≡ true = subst (λ (y : ℕ). leads r (l .to) y ≡ true) (sym k) (leads-just r (l .to) (l .to) (l .to) (fine-cards m R) .0) in
           let a = step-said m (Links l) (record { act = Shows 1; memory = m₁; numbers = l .from ∷ [] }) i sm
-              (rw (slots-there m R l s t A B, not-found, eq-eqb s t e) refl) in
-          let b = step-next m₁ (quiet (ends (Refused (ByBoard Cycle)) (leaves-pending m₁ 0))) (ap quiet (went-round m₁ (is-pending m R 2))) in
+          (rw (slots-there m R l s t A B, not-found, eq-eqb s t e) refl) in
+          let b = step-next m₁ (quiet (ends (Refused (ByBoard Cycle)) (leaves-pending m₁ 0))) (went-round m₁ (is-pending m R 2)) in
           round-kept own 3 Means m r (leaves-pending m₁ 0) l (l .from ∷ []) (rw (both, linked-here ∙ n, ld))
           (and-from _ _ (and-from _ _ (eq-eqb (l .from) (l .to) k) (eq-eqb (l .from) (l .from) refl)) refl)
           (shows-refused own m m₁ (leaves-pending m₁ 0) (Said (Links l)) (l .from ∷ []) a 5 (omega arith) (omega arith) b) (settles m R o 2)
@@ -168,7 +168,7 @@ module _ (m : List ℕ) (R : Ready m) (o : once (edges m) ≡ true) (i : pending
           fine-after =
               let b = slot-board m in
               let re : refusal b (Links x) ≡ None =
-                  sym (names m R .refusal-named s t (A .in-use) (B .in-use)) ∙ ap₂ (λ (p q : ℕ). refusal r (Links (p ⟶ q))) (A .card) (B .card) ∙ allowed in
+              sym (names m R .refusal-named s t (A .in-use) (B .in-use)) ∙ ap₂ (λ (p q : ℕ). refusal r (Links (p ⟶ q))) (A .card) (B .card) ∙ allowed in
               let bw : backward b s t ≡ false = sym (backward-is m R (l .from) (l .to) s t A B) ∙ forward in
               let f = stays b (Links x) (row-of m) (R .fine-so) re (rw bw (same-itself (row-of m))) (forward-keeps b (R .fine-so) s t re bw) in
               subst (λ (ls : List Link). fine (record { row = row-of m′; links = ls }) ≡ true) (sym (law .1))
@@ -181,9 +181,9 @@ module _ (m : List ℕ) (R : Ready m) (o : once (edges m) ≡ true) (i : pending
           board-after =
               let a : r .row ≡ card-board m′ .row = row-is m R ∙ sym (D .1) ∙ cards-named m′ in
               let b : with-link r (l .from) (l .to) ≡ card-board m′ .links =
-                  ap₂ (λ (p q : ℕ). with-link r p q) (sym (A .card)) (sym (B .card)) ∙ names m R .with-link-named s t
-                  ∙ sym (all-named (cell m ids) (cell m′ ids) (links-same m m′ only .same-ids) (with-link (slot-board m) s t))
-                  ∙ ap (map (named (cell m′ ids))) (sym (law .1)) in
+              ap₂ (λ (p q : ℕ). with-link r p q) (sym (A .card)) (sym (B .card)) ∙ names m R .with-link-named s t
+              ∙ sym (all-named (cell m ids) (cell m′ ids) (links-same m m′ only .same-ids) (with-link (slot-board m) s t))
+              ∙ ap (map (named (cell m′ ids))) (sym (law .1)) in
               ap₂ (λ (xs : List ℕ) (ls : List Link). record { row = xs; links = ls }) a b
 
           made : Step-kept own 3 Means m r (Links l)
@@ -194,7 +194,7 @@ module _ (m : List ℕ) (R : Ready m) (o : once (edges m) ≡ true) (i : pending
                 ready = ready-again m m′ R (links-unmarked m m′ only) (D .0 (R .stands)) (law .0) fine-after;
                 single = ap once (law .1) ∙ stays-once .1 (edges m) x o n;
                 idle = only .tallies 4 (λ z. omega arith) (λ z. omega arith) ∙ i;
-                is = board-after
+                is = board-after;
               })
 
   -- with the case of a link that goes backward

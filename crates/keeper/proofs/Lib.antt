@@ -10,6 +10,7 @@ pub mod Zeros
 pub mod Same
 pub mod Excluding
 pub mod Fitting
+pub mod TellingParts
 pub mod Knowing
 pub mod Carrying
 pub mod Saying

@@ -128,7 +128,7 @@ module _ (m : List ℕ) (R : Ready m) (o : once (edges m) ≡ true) (i : pending
       let m₁ = leaves-pending m 1 in
       let ks = place (r .row) a ∷ place (r .row) b ∷ [] in
       let e = step-said m (Places a b) (record { act = Shows 2; memory = m₁; numbers = ks }) i sm (rw (at a h, at b g)) in
-      let f = step-next m₁ (quiet (ends Done (leaves-pending m₁ 0))) (ap quiet (went-done m₁ (is-pending m R 1))) in
+      let f = step-next m₁ (quiet (ends Done (leaves-pending m₁ 0))) (went-done m₁ (is-pending m R 1)) in
       places-kept own 3 Means m r (leaves-pending m₁ 0) (fine-cards m R) a b (rw (has-row a ∙ h, has-row b ∙ g))
       (shows-done own m m₁ (leaves-pending m₁ 0) (Said (Places a b)) ks e f) (settles m R o 1)
 

@@ -32,16 +32,16 @@ step-of a = steps-to (a .memory) (action-of (a .act) (a .numbers))
 pub step-said : (m : List ℕ) (c : Command) (a : Answer) → pending m ≡ 0 → small-command c ≡ true → said m c ≡ a → own .step m (Said c) ≡ step-of a
 step-said m c a i sm e = guarded-said steps m c _ sm (ap step-of (answer-said m c i ∙ e))
 
-pub step-next : (m : List ℕ) (a : Answer) → quiet (went-on m) ≡ a → own .step m Next ≡ step-of a
+pub step-next : (m : List ℕ) (a : Answer) → went-on m ≡ a → own .step m Next ≡ step-of a
 step-next m a e = guarded-next steps m _ (ap step-of (answer-next m ∙ e))
 
-pub went-done : (m : List ℕ) → pending m ≡ 1 → went-on m ≡ ends Done (leaves-pending m 0)
+pub went-done : (m : List ℕ) → pending m ≡ 1 → went-on m ≡ quiet (ends Done (leaves-pending m 0))
 unfolding went-on
-went-done m e = rw (eq-eqb (pending m) 1 e)
+went-done m e = rw (ne-eqb (pending m) 3 (λ z. omega arith), eq-eqb (pending m) 1 e)
 
-pub went-round : (m : List ℕ) → pending m ≡ 2 → went-on m ≡ ends (Refused (ByBoard Cycle)) (leaves-pending m 0)
+pub went-round : (m : List ℕ) → pending m ≡ 2 → went-on m ≡ quiet (ends (Refused (ByBoard Cycle)) (leaves-pending m 0))
 unfolding went-on
-went-round m e = rw (ne-eqb (pending m) 1 (λ z. omega arith), eq-eqb (pending m) 2 e)
+went-round m e = rw (ne-eqb (pending m) 3 (λ z. omega arith), ne-eqb (pending m) 1 (λ z. omega arith), eq-eqb (pending m) 2 e)
 
 -- done, or refused, at once
 pub run-done : (m m₁ : List ℕ) (c : Command) → pending m ≡ 0 → small-command c ≡ true → said m c ≡ quiet (ends Done m₁) → run-of 3 own m c ≡ ran m₁ [] [] 0

@@ -14,7 +14,7 @@ use Rattle.row.specs.Commands.{refusal, with-link, backward}
 use Rattle.row.proofs.Places.{place-left}
 use Rattle.row.proofs.Filters.{every-from, every-filter-more, place-filter}
 use Rattle.row.proofs.Climbs.{fine-parts, link-ends, link-before}
-use Rattle.row.proofs.Allowed.{forward-kept, keeps-more}
+use Rattle.row.proofs.Allowed.{open-link, forward-kept, keeps-more}
 
 module _ (r : Board) (f : fine r ≡ true) where
   pub comes-keeps : (k : ℕ) → keeps ((r .row) ++ k ∷ []) (r .links) ≡ true
@@ -32,7 +32,10 @@ module _ (r : Board) (f : fine r ≡ true) where
       (fine-parts r f .kept)
 
   pub forward-keeps : (a b : ℕ) → refusal r (Links (a ⟶ b)) ≡ None → backward r a b ≡ false → keeps (r .row) (with-link r a b) ≡ true
-  forward-keeps a b re n = let p = fine-parts r f in keeps-more r p a b re (r .row) (link-before r p) (forward-kept r p a b re n)
+  forward-keeps a b re n =
+      let p = fine-parts r f in
+      let o = open-link r a b re in
+      keeps-more r p a b o (r .row) (link-before r p) (forward-kept r p a b o n)
 
   pub unlinks-keeps : (a b : ℕ) → keeps (r .row) (filter (λ m. not (eqb (m .from) a && eqb (m .to) b)) (r .links)) ≡ true
   unlinks-keeps a b = every-filter-more _ _ _ (λ l h n. h) (r .links) (fine-parts r f .kept)

@@ -5,7 +5,8 @@
 --   quiet e          such an answer
 --   ends a m         the act a and the memory m
 --   refuses m e      refused by the board
---   pending m        what is still to come of the last command: 0 nothing, 1 that it's done, 2 that it's refused, since it would go round
+--   pending m        what is still to come of the last command: 0 nothing, 1 that it's done, 2 that it's refused, since it would go round,
+--                    3 more of the row
 --   leaves-pending   the memory with something still to come
 --   by-result        one or another, by an operation's result
 use mathlib.Core.List.{List, []}

@@ -4,6 +4,8 @@ pub mod Sister
 pub mod Excluded
 pub mod Sized
 pub mod Answers
+pub mod Telling
+pub mod Reordering
 pub mod Linking
 pub mod Own
 pub mod Meaning

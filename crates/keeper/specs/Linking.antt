@@ -4,7 +4,6 @@
 --   unlinked m l       a link taken back
 --   put-in m x         a link between slots put in, if there's room
 --   shown-itself m k   a card before itself: it is the way alone
---   reordered m x      the row put right for a link between slots of which the second stands first
 --   linked m l         a link made
 use mathlib.Core.Bool.{cond}
 use mathlib.Core.List.{List, [], _∷_}
@@ -22,9 +21,9 @@ use Rattle.links.specs.Layout.{live}
 use Rattle.links.specs.Entries.{found as entry-found}
 use Rattle.links.specs.Building.{inserted}
 use Rattle.links.specs.Removing.{removed}
-use Rattle.keeper.specs.declared.event.Reason.the-variants.{NotYet}
-use Rattle.keeper.specs.declared.event.Act.the-variants.{Shows, Done, Refused}
+use Rattle.keeper.specs.declared.event.Act.the-variants.{Shows, Done}
 use Rattle.keeper.specs.Answers.{Answer, Ended, quiet, ends, refuses, leaves-pending, by-result}
+use Rattle.keeper.specs.Reordering.{reordered}
 
 unfoldable pub slots-found : List ℕ → Link → Option Link
 slots-found m l = given (found m (l .from)) None (λ a. given (found m (l .to)) None (λ b. Some (a ⟶ b)))
@@ -39,9 +38,6 @@ put-in m x = cond (leb 65536 (live m)) (refuses m Full) (ends Done (inserted m x
 
 abbrev pub shown-itself : List ℕ → ℕ → Answer
 shown-itself m k = record { act = Shows 1; memory = leaves-pending m 2; numbers = k ∷ [] }
-
-unfoldable pub reordered : List ℕ → Link → Answer
-reordered m x = quiet (ends (Refused NotYet) m)
 
 unfoldable pub linked : List ℕ → Link → Answer
 linked m l =

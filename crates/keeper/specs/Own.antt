@@ -4,7 +4,8 @@
 --   left m k         a card goes, and its links with it
 --   shown-places     the places of two cards, shown
 --   said m c         a command is said, when nothing is pending
---   went-on m        the keeper goes on with the last command
+--   finished m       the end of the last command
+--   went-on m        the keeper goes on with the last command: more of the row, or its end
 --   answer m ev      a step: a command said before the last one's end is refused
 --   own              the engine: 524,288 zeros at the start, and the steps of `answer`; numbers of an event that don't fit 64 bits are refused
 --   step-fits        the memory has the engine's length, and the output room for 8,192 numbers
@@ -21,6 +22,8 @@ use Rattle.row.specs.declared.board.Command.{Command}
 use Rattle.row.specs.declared.board.Command.the-variants.{Comes, Goes, Link as Links, Unlink as Unlinks, Places}
 use Rattle.row.specs.declared.board.Refusal.{Refusal}
 use Rattle.row.specs.declared.board.Refusal.the-variants.{Missing, Cycle}
+use Rattle.row.specs.Columns.{cell}
+use Rattle.row.specs.Layout.{tally}
 use Rattle.row.specs.Lookup.{given}
 use Rattle.row.specs.Moves.{came, gone, place-found}
 use Rattle.links.specs.Removing.{removed-all}
@@ -33,6 +36,7 @@ use Rattle.keeper.specs.declared.event.Act.the-variants.{Tells, Shows, Done, R
 use Rattle.keeper.specs.Engine.{action-of, Step, Engine}
 use Rattle.keeper.specs.Sized.{guarded}
 use Rattle.keeper.specs.Answers.{Answer, Ended, quiet, ends, refuses, pending, leaves-pending, by-result}
+use Rattle.keeper.specs.Telling.{told-part}
 use Rattle.keeper.specs.Linking.{linked, unlinked}
 
 abbrev pub ended : Result ℕ Refusal → List ℕ → Ended
@@ -54,13 +58,16 @@ said m (Links l) = linked m l
 said m (Unlinks l) = quiet (unlinked m l)
 said m (Places a b) = shown-places m a b
 
-unfoldable pub went-on : List ℕ → Ended
-went-on m =
+abbrev pub finished : List ℕ → Ended
+finished m =
     ends (cond (eqb (pending m) 1) Done (cond (eqb (pending m) 2) (Refused (Board Cycle)) (Refused Idle))) (leaves-pending m 0)
+
+unfoldable pub went-on : List ℕ → Answer
+went-on m = cond (eqb (pending m) 3) (told-part m (cell m tally 5) (cell m tally 6)) (quiet (finished m))
 
 unfoldable pub answer : List ℕ → Event → Answer
 answer m (Said c) = cond (eqb (pending m) 0) (said m c) (quiet (ends (Refused Busy) m))
-answer m Next = quiet (went-on m)
+answer m Next = went-on m
 
 abbrev pub steps : List ℕ → Event → Step
 steps m ev = record { memory = answer m ev .memory; action = action-of (answer m ev .act) (answer m ev .numbers) }

@@ -2,7 +2,9 @@
 mod event;
 mod layout;
 mod linking;
+mod reordering;
 mod stepping;
+mod telling;
 mod theory;
 
 pub use event::Act;

@@ -3,12 +3,13 @@ ghost use mathlib.Core.Path.{_≡_};
 ghost use mathlib.Core.List.{_++_};
 ghost use Prim.Native.Nat.{_≤_};
 ghost use lib.ListN.{length, drop};
-ghost use Rattle.keeper.specs.Linking.{slots-found, unlinked, put-in, shown-itself, reordered, linked};
+ghost use Rattle.keeper.specs.Linking.{slots-found, unlinked, put-in, shown-itself, linked};
 use crate::event::Act;
 use crate::event::Reason;
 use crate::layout::LINKS;
 use crate::layout::PENDING;
 use crate::layout::ROUND;
+use crate::reordering::reorder;
 use links::insert;
 use links::remove;
 use row::Link;
@@ -68,19 +69,9 @@ fn show_itself(memory: &mut [u64], card: u64, out: &mut [u64]) -> Act
     Act::Shows(1)
 }
 
-// The row put right for a link between slots of which the second stands first.
-fn reorder(memory: &mut [u64], slots: Link, out: &mut [u64]) -> Act
-    requires { ⌜ 8192 ≤ length (now out) ⌝ }
-    ensures act { λ r. ⌜ r ≡ reordered (now (memory .entry)) slots .act ⌝ }
-    ensures after { λ _. ⌜ now (memory .exit) ≡ reordered (now (memory .entry)) slots .memory ⌝ }
-    ensures out { λ _. ⌜ now (out .exit) ≡ reordered (now (memory .entry)) slots .numbers ++ drop (length (reordered (now (memory .entry)) slots .numbers)) (now (out .entry)) ⌝ }
-{
-    Act::Refused(Reason::NotYet)
-}
-
 // Makes a link between cards.
 pub(crate) fn link(memory: &mut [u64], link: Link, out: &mut [u64]) -> Act
-    requires { ⌜ 8192 ≤ length (now out) ⌝ }
+    requires { ⌜ 524288 ≤ length (now memory) ⌝ ∗ ⌜ 8192 ≤ length (now out) ⌝ }
     ensures act { λ r. ⌜ r ≡ linked (now (memory .entry)) link .act ⌝ }
     ensures after { λ _. ⌜ now (memory .exit) ≡ linked (now (memory .entry)) link .memory ⌝ }
     ensures out { λ _. ⌜ now (out .exit) ≡ linked (now (memory .entry)) link .numbers ++ drop (length (linked (now (memory .entry)) link .numbers)) (now (out .entry)) ⌝ }

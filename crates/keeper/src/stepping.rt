@@ -4,18 +4,22 @@ ghost use mathlib.Core.List.{_++_};
 ghost use Prim.Native.Nat.{_≤_};
 ghost use lib.ListN.{length, drop};
 ghost use Rattle.row.specs.Moves.{came};
-ghost use Rattle.keeper.specs.Own.{ended, left, shown-places, said, went-on, Step-says};
+ghost use Rattle.keeper.specs.Own.{ended, left, shown-places, said, finished, went-on, Step-says};
 use crate::event::Act;
 use crate::event::Event;
 use crate::event::Reason;
 use crate::layout::DONE;
 use crate::layout::MEMORY;
+use crate::layout::MORE;
+use crate::layout::MORE_FROM;
+use crate::layout::MORE_TO;
 use crate::layout::NOTHING;
 use crate::layout::OUTPUT;
 use crate::layout::PENDING;
 use crate::layout::ROUND;
 use crate::linking::link;
 use crate::linking::unlink;
+use crate::telling::tell_part;
 use links::remove_all;
 use row::Command;
 use row::Refusal;
@@ -70,7 +74,7 @@ fn show_places(memory: &mut [u64], a: u64, b: u64, out: &mut [u64]) -> Act
 
 // A command is said.
 fn say(memory: &mut [u64], command: Command, out: &mut [u64]) -> Act
-    requires { ⌜ 8192 ≤ length (now out) ⌝ }
+    requires { ⌜ 524288 ≤ length (now memory) ⌝ ∗ ⌜ 8192 ≤ length (now out) ⌝ }
     ensures act { λ r. ⌜ r ≡ said (now (memory .entry)) command .act ⌝ }
     ensures after { λ _. ⌜ now (memory .exit) ≡ said (now (memory .entry)) command .memory ⌝ }
     ensures out { λ _. ⌜ now (out .exit) ≡ said (now (memory .entry)) command .numbers ++ drop (length (said (now (memory .entry)) command .numbers)) (now (out .entry)) ⌝ }
@@ -84,10 +88,10 @@ fn say(memory: &mut [u64], command: Command, out: &mut [u64]) -> Act
     }
 }
 
-// Goes on with the last command.
-fn go_on(memory: &mut [u64]) -> Act
-    ensures act { λ r. ⌜ r ≡ went-on (now (memory .entry)) .act ⌝ }
-    ensures after { λ _. ⌜ now (memory .exit) ≡ went-on (now (memory .entry)) .memory ⌝ }
+// The end of the last command.
+fn finish(memory: &mut [u64]) -> Act
+    ensures act { λ r. ⌜ r ≡ finished (now (memory .entry)) .act ⌝ }
+    ensures after { λ _. ⌜ now (memory .exit) ≡ finished (now (memory .entry)) .memory ⌝ }
 {
     let pending = TALLY.get(memory, PENDING);
     TALLY.set(memory, PENDING, NOTHING);
@@ -98,6 +102,21 @@ fn go_on(memory: &mut [u64]) -> Act
     }
 }
 
+// Goes on with the last command: more of the row, or its end.
+fn go_on(memory: &mut [u64], out: &mut [u64]) -> Act
+    requires { ⌜ 524288 ≤ length (now memory) ⌝ ∗ ⌜ 8192 ≤ length (now out) ⌝ }
+    ensures act { λ r. ⌜ r ≡ went-on (now (memory .entry)) .act ⌝ }
+    ensures after { λ _. ⌜ now (memory .exit) ≡ went-on (now (memory .entry)) .memory ⌝ }
+    ensures out { λ _. ⌜ now (out .exit) ≡ went-on (now (memory .entry)) .numbers ++ drop (length (went-on (now (memory .entry)) .numbers)) (now (out .entry)) ⌝ }
+{
+    if TALLY.get(memory, PENDING) != MORE {
+        return finish(memory);
+    }
+    let from = TALLY.get(memory, MORE_FROM);
+    let to = TALLY.get(memory, MORE_TO);
+    tell_part(memory, from, to, out)
+}
+
 // One step: the answer to an event, the memory after it, and what is told or shown at the front of `out`.
 pub fn step(memory: &mut [u64], event: Event, out: &mut [u64]) -> Act
     ensures { λ r. ⌜ Step-says (now (memory .entry)) event (now (out .entry)) r (now (memory .exit)) (now (out .exit)) ⌝ }
@@ -106,7 +125,7 @@ pub fn step(memory: &mut [u64], event: Event, out: &mut [u64]) -> Act
         return Act::Refused(Reason::Unfit);
     }
     match event {
-        Event::Next => go_on(memory),
+        Event::Next => go_on(memory, out),
         Event::Said(command) => {
             if TALLY.get(memory, PENDING) != NOTHING {
                 return Act::Refused(Reason::Busy);

@@ -32,13 +32,21 @@ pub no-round : (r : Board) (a b : ℕ) → refusal r (Links (a ⟶ b)) ≡ None 
 unfolding refusal
 no-round r a b h = allowed (has (r .row) a && has (r .row) b) (linked r a b) (leads r b a) (leb 65536 (length (r .links))) h .1
 
-module _ (r : Board) (f : Fine r) (a b : ℕ) (re : refusal r (Links (a ⟶ b)) ≡ None) where
+-- that much is enough for the link to be kept
+pub record Open (r : Board) (a b : ℕ) : Type 0 where
+  pub there : (has (r .row) a ≡ true) × (has (r .row) b ≡ true)
+  pub no-way : leads r b a ≡ false
+
+pub open-link : (r : Board) (a b : ℕ) → refusal r (Links (a ⟶ b)) ≡ None → Open r a b
+open-link r a b re = record { there = link-there r a b re; no-way = no-round r a b re }
+
+module _ (r : Board) (f : Fine r) (a b : ℕ) (o : Open r a b) where
   -- a link from what b leads to goes to what b leads to, and a link to what leads to a comes from what leads to a
   pub behind-on : (x y : ℕ) → joins (r .links) x y ≡ true → leads r b x ≡ true → leads r b y ≡ true
   behind-on x y e l =
       let w = leads-way r f b x l in
       let v = way-join (r .links) (w .0) 1 b x y (w .1) (y, e, refl) in
-      way-leads r f (v .0) b y (v .1) (link-there r a b re .1)
+      way-leads r f (v .0) b y (v .1) (o .there .1)
 
   pub before-on : (x y : ℕ) → joins (r .links) x y ≡ true → leads r y a ≡ true → leads r x a ≡ true
   before-on x y e l =
@@ -52,7 +60,7 @@ module _ (r : Board) (f : Fine r) (a b : ℕ) (re : refusal r (Links (a ⟶ b)) 
         let v = leads-way r f b k p in
         let w = leads-way r f k a q in
         let z = way-join (r .links) (v .0) (w .0) b k a (v .1) (w .1) in
-        absurd (both-ways _ (no-round r a b re) (way-leads r f (z .0) b a (z .1) (link-there r a b re .1)))
+        absurd (both-ways _ (o .no-way) (way-leads r f (z .0) b a (z .1) (o .there .1)))
     | inr q ↦ q
   ]
 
@@ -62,10 +70,10 @@ module _ (r : Board) (f : Fine r) (a b : ℕ) (re : refusal r (Links (a ⟶ b)) 
   -- if the link does not go backward, b stands behind a already
   pub forward-kept : backward r a b ≡ false → place (r .row) a < place (r .row) b
   forward-kept e =
-      let t = link-there r a b re in
+      let t = o .there in
       let l = ltb-false _ _ e in
       let n : place (r .row) a ≡ place (r .row) b → ⊥ =
-      λ s. let q = place-same (r .row) a b (t .0) s in both-ways _ (no-round r a b re) (rw q (itself b (t .1))) in
+      λ s. let q = place-same (r .row) a b (t .0) s in both-ways _ (o .no-way) (rw q (itself b (t .1))) in
       omega arith
 
   -- a row that keeps the links and the new one

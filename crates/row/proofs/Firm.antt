@@ -1,5 +1,5 @@
 -- For a link that goes backward there is a row in which what is not touched keeps its place; and so each link that is not refused can be kept.
-use mathlib.Core.Path.{_≡_}
+use mathlib.Core.Path.{_≡_, refl}
 use mathlib.Core.Bool.{true, false}
 use mathlib.Core.List.{List}
 use mathlib.Core.Logic.{inl, inr}
@@ -19,10 +19,10 @@ use Rattle.row.proofs.Parts.{with-part, take-with-part, drop-with-part, filter
 use Rattle.row.proofs.Refilled.{refilled, length-refilled, filter-refilled-neither, filter-refilled-A, filter-refilled-B, has-refilled, place-refilled}
 use Rattle.row.proofs.Refilled.{ends-refilled, before-refilled}
 use Rattle.row.proofs.Climbs.{Fine, fine-parts, link-before}
-use Rattle.row.proofs.Allowed.{link-there, behind-on, before-on, sides-apart, itself, forward-kept, keeps-more}
+use Rattle.row.proofs.Allowed.{Open, open-link, behind-on, before-on, sides-apart, itself, forward-kept, keeps-more}
 use Rattle.row.proofs.Staying.{stays}
 
-module _ (r : Board) (f : Fine r) (a b : ℕ) (re : refusal r (Links (a ⟶ b)) ≡ None) (back : place (r .row) b < place (r .row) a) where
+module _ (r : Board) (f : Fine r) (a b : ℕ) (o : Open r a b) (back : place (r .row) b < place (r .row) a) where
   -- from b up to a: first what leads to a, then what b leads to, at the places that these had
   fill : List ℕ → List ℕ
   fill = refilled (leads r b) (λ k. leads r k a)
@@ -30,14 +30,18 @@ module _ (r : Board) (f : Fine r) (a b : ℕ) (re : refusal r (Links (a ⟶ b)) 
   pub firm-row : List ℕ
   firm-row = with-part fill (r .row) (place (r .row) b) (suc (place (r .row) a))
 
+  pub firm-row-is : firm-row ≡ with-part (refilled (leads r b) (λ k. leads r k a)) (r .row) (place (r .row) b) (suc (place (r .row) a))
+  unfolding firm-row fill
+  firm-row-is = refl
+
   low : place (r .row) b ≤ suc (place (r .row) a)
   low = omega arith
 
   high : suc (place (r .row) a) ≤ length (r .row)
-  high = place-below (r .row) a (link-there r a b re .0)
+  high = place-below (r .row) a (o .there .0)
 
   apart : (k : ℕ) → leads r b k ≡ true → leads r k a ≡ false
-  apart = sides-apart r f a b re
+  apart = sides-apart r f a b o
 
   pub firm-little : little r a b firm-row ≡ true
   unfolding firm-row fill
@@ -63,31 +67,32 @@ module _ (r : Board) (f : Fine r) (a b : ℕ) (re : refusal r (Links (a ⟶ b)) 
   pub firm-keeps : keeps firm-row (with-link r a b) ≡ true
   unfolding firm-row fill
   firm-keeps =
-      let t = link-there r a b re in
-      keeps-more r f a b re firm-row
+      let t = o .there in
+      keeps-more r f a b o firm-row
       (λ x y e. before-with-part fill (r .row) _ _ low high (has-refilled _ _ apart) x y
-      (λ ys hx hy l. before-refilled _ _ apart ys x y hx hy (behind-on r f a b re x y e) (before-on r f a b re x y e) l) (link-before r f x y e))
+      (λ ys hx hy l. before-refilled _ _ apart ys x y hx hy (behind-on r f a b o x y e) (before-on r f a b o x y e) l) (link-before r f x y e))
       (ends-with-part fill (r .row) _ _ low high (has-refilled _ _ apart) a b
-      (λ ys hx hy. ends-refilled _ _ apart ys a b hx (itself r f a b re a (t .0)) (itself r f a b re b (t .1)))
+      (λ ys hx hy. ends-refilled _ _ apart ys a b hx (itself r f a b o a (t .0)) (itself r f a b o b (t .1)))
       (omega arith) (omega arith) (omega arith) (omega arith))
 
 pub can-be-firm : Can-be-firm
 unfolding links-after may-be
 can-be-firm r a b fi re ba =
     let f = fine-parts r fi in
+    let o = open-link r a b re in
     let l = ltb-true _ _ ba in (
-      firm-row r f a b re l,
-      firm-is r f a b re l,
-      stays r (Links (a ⟶ b)) (firm-row r f a b re l) fi re (rw ba (firm-little r f a b re l)) (firm-keeps r f a b re l),
+      firm-row r f a b o l,
+      firm-is r f a b o l,
+      stays r (Links (a ⟶ b)) (firm-row r f a b o l) fi re (rw ba (firm-little r f a b o l)) (firm-keeps r f a b o l),
     )
 
 -- a link that is not refused: a row that may be so and keeps it
 can-link : (r : Board) → Fine r → (a b : ℕ) → refusal r (Links (a ⟶ b)) ≡ None →
     (row : List ℕ) × (may-be r (Links (a ⟶ b)) row ≡ true) × (keeps row (with-link r a b) ≡ true)
 unfolding may-be
-can-link r f a b re = elim (cases-bool (backward r a b)) [
-  | inl e ↦ let l = ltb-true _ _ e in (firm-row r f a b re l, rw e (firm-little r f a b re l), firm-keeps r f a b re l)
-  | inr e ↦ (r .row, rw e (same-itself (r .row)), keeps-more r f a b re (r .row) (λ x y k. link-before r f x y k) (forward-kept r f a b re e))
+can-link r f a b re = let o = open-link r a b re in elim (cases-bool (backward r a b)) [
+  | inl e ↦ let l = ltb-true _ _ e in (firm-row r f a b o l, rw e (firm-little r f a b o l), firm-keeps r f a b o l)
+  | inr e ↦ (r .row, rw e (same-itself (r .row)), keeps-more r f a b o (r .row) (λ x y k. link-before r f x y k) (forward-kept r f a b o e))
 ]
 
 pub can-be : Can-be

@@ -19,7 +19,7 @@ use Rattle.row.proofs.Filters.{filter-empty, every-append, every-has, before-b
 use Rattle.row.proofs.Refilled.{either}
 use Rattle.row.proofs.Climbs.{fine-parts}
 use Rattle.row.proofs.Leading.{leads-before}
-use Rattle.row.proofs.Allowed.{link-there, sides-apart, itself}
+use Rattle.row.proofs.Allowed.{link-there, open-link, sides-apart, itself}
 use Rattle.row.proofs.Little.{Little, little-parts, place-by-front, place-by-rest, little-apart, little-has}
 
 -- two rows of the same cards, in which what fails a test has its place and what passes has its order
@@ -78,11 +78,11 @@ module _ (r : Board) (fi : fine r ≡ true) (a b : ℕ) (re : refusal r (Links (
       let t = link-there r a b re in
       let hs = little-has r f a b row l in
       let m = ab-first row ke in
-      both-tests (leads r b) (λ k. leads r k a) (sides-apart r f a b re) row (little-apart r f a b row l)
+      both-tests (leads r b) (λ k. leads r k a) (sides-apart r f a b (open-link r a b re)) row (little-apart r f a b row l)
       (λ x y ax by′ hx hy.
       let sx = sym (hs x) ∙ hx in
-      let u = upto-by-test (λ k. leads r k a) (r .row) row x a (l .before) ax (itself r f a b re a (t .0)) sx (leads-before r x a fi sx ax) in
-      let v = upto-by-test (leads r b) (r .row) row b y (l .behind) (itself r f a b re b (t .1)) by′ (t .1) (leads-before r b y fi (t .1) by′) in
+      let u = upto-by-test (λ k. leads r k a) (r .row) row x a (l .before) ax (itself r f a b (open-link r a b re) a (t .0)) sx (leads-before r x a fi sx ax) in
+      let v = upto-by-test (leads r b) (r .row) row b y (l .behind) (itself r f a b (open-link r a b re) b (t .1)) by′ (t .1) (leads-before r b y fi (t .1) by′) in
       omega arith)
       ∙ ap₂ _++_ (l .before) (l .behind)
 

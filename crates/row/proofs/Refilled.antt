@@ -35,7 +35,7 @@ module _ (B A : ℕ → Bool) (apart : (k : ℕ) → B k ≡ true → A k ≡ fa
   length-fill [] = refl
   length-fill (x ∷ M) = let ih = length-fill M in let n = apart x in grind arith
 
-  length-fills : (M : List ℕ) → length (filter A M ++ filter B M) ≡ length (filter (either B A) M)
+  pub length-fills : (M : List ℕ) → length (filter A M ++ filter B M) ≡ length (filter (either B A) M)
   length-fills M = length-append (filter A M) (filter B M) ∙ length-fill M
 
   pub length-refilled : (M : List ℕ) → length (refilled B A M) ≡ length M

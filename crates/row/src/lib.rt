@@ -32,6 +32,8 @@ pub use laws::slots_named_stands;
 pub use laws::tells_stands;
 pub use layout::CARDS;
 pub use layout::IDS;
+pub use layout::PLACES;
+pub use layout::SLOTS;
 pub use layout::TALLY;
 pub use lookup::find;
 pub use telling::tell;

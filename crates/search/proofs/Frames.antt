@@ -1,6 +1,6 @@
 -- Only the column itself is written, and what is marked depends on its cells alone.
 use mathlib.Core.Path.{_≡_, refl, sym, ap, _∙_}
-use mathlib.Core.Bool.{Bool, true, _&&_, _||_, not}
+use mathlib.Core.Bool.{Bool, _&&_, _||_, not}
 use mathlib.Core.Logic.{_≢_, ⊎-elim}
 use mathlib.Core.List.{List}
 use Prim.Native.Nat.{ℕ, zero, suc, _+_, _/_, _%_, _^_, _<_, _≤_}
@@ -14,13 +14,13 @@ use Rattle.std.proofs.shelf.Bits.{xor-lt, pow-below}
 use Rattle.std.proofs.shelf.Lists.{getD-set-same, getD-set-other, set-past}
 use Rattle.std.proofs.shelf.Tests.{cases-lt, cases-eq, cond-both}
 use Rattle.row.specs.declared.column.Column.{Column}
-use Rattle.row.specs.Columns.{cell, written, apart}
+use Rattle.row.specs.Columns.{cell, written}
 use Rattle.row.specs.Lookup.{given}
 use Rattle.row.proofs.Cells.{length-written, cell-apart}
 use Rattle.search.specs.Marks.{digit, bit, marked, flipped, toggled, fresh, added, removed, word-up, cleared, wiped}
-use Rattle.search.specs.MarkLaws.{Summed, Only, Framing, Cells-alone}
+use Rattle.search.specs.MarkLaws.{Only, Framing, Cells-alone}
 
-abbrev Small : List ℕ → Type 0
+abbrev pub Small : List ℕ → Type 0
 Small m = (i : ℕ) → getD m i 0 < 2 ^ 64
 
 small-set : (m : List ℕ) (k v : ℕ) → v < 2 ^ 64 → Small m → Small (set m k v)
@@ -34,11 +34,11 @@ small-set m k v fits s i = ⊎-elim in-it past (cases-lt k (length m))
         ⊎-elim (λ (e : i ≡ k). rw (ap (λ (j : ℕ). getD (set m k v) j 0) e ∙ getD-set-same m k v 0 h) fits)
         (λ (n : i ≢ k). rw (getD-set-other m k i v 0 n) (s i)) (cases-eq i k)
 
-small-written : (m : List ℕ) (c : Column) (i v : ℕ) → v < 2 ^ 64 → Small m → Small (written m c i v)
+pub small-written : (m : List ℕ) (c : Column) (i v : ℕ) → v < 2 ^ 64 → Small m → Small (written m c i v)
 unfolding written
 small-written m c i v fits s = cond-both (ltb i (c .size)) (set m (c .base + i) v) m Small (λ _. small-set m (c .base + i) v fits s) (λ _. s)
 
-small-cell : (m : List ℕ) (c : Column) (i : ℕ) → Small m → cell m c i < 2 ^ 64
+pub small-cell : (m : List ℕ) (c : Column) (i : ℕ) → Small m → cell m c i < 2 ^ 64
 unfolding cell
 small-cell m c i s = cond-both (ltb i (c .size)) (getD m (c .base + i) 0) 0 (λ (x : ℕ). x < 2 ^ 64) (λ _. s (c .base + i)) (λ _. omega arith)
 
@@ -71,7 +71,7 @@ module _ (c : Column) where
   only-given m None g h = only-same m
   only-given m (Some v) g h = h v
 
-  pub only-zeroed : (m : List ℕ) (i : ℕ) → Only c m (written m c i 0)
+  only-zeroed : (m : List ℕ) (i : ℕ) → Only c m (written m c i 0)
   only-zeroed m i = only-written m i 0 (λ _. omega arith)
 
 only-cleared : (f : ℕ) (m : List ℕ) (c : Column) (w : ℕ) → Only c m (cleared f m c w)
@@ -115,15 +115,3 @@ cells-alone m n c e = (
     sums = λ w h. bit-alone m n c 128 w e ∙ sm .sums w h ∙ ap (λ (x : ℕ). not (eqb x 0)) (sym (e w));
   },
 )
-
--- A set stays as it is where another column is written.
-pub kept-by : (m n : List ℕ) (d : Column) → length n ≡ length m → ((i : ℕ) → cell n d i ≡ cell m d i) → Summed m d →
-    Summed n d × ((q : ℕ) → marked n d q ≡ marked m d q)
-kept-by m n d l e sm = let k = cells-alone m n d e in (k .1 (rw l (sm .lies)) sm, k .0)
-
-pub kept-by-only : (m n : List ℕ) (c d : Column) → Only c m n → apart c d ≡ true → Summed m d → Summed n d × ((q : ℕ) → marked n d q ≡ marked m d q)
-kept-by-only m n c d o a sm = kept-by m n d (o .long) (λ i. o .others d i a) sm
-
-pub kept-by-write : (m : List ℕ) (c d : Column) (i v : ℕ) → apart c d ≡ true → Summed m d →
-    Summed (written m c i v) d × ((q : ℕ) → marked (written m c i v) d q ≡ marked m d q)
-kept-by-write m c d i v a sm = kept-by m (written m c i v) d (length-written m c i v) (λ j. cell-apart m c d i j v a) sm

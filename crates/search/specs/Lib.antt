@@ -4,3 +4,8 @@ pub mod MarkLaws
 pub mod Meaning
 pub mod Way
 pub mod WayLaws
+pub mod Sides
+pub mod Hunt
+pub mod HuntLaws
+pub mod Settle
+pub mod SettleLaws

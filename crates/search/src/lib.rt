@@ -1,22 +1,33 @@
 // Sets of places, and what is proved of them.
+mod hunt;
 mod layout;
 mod marks;
+mod settling;
+mod side;
 mod theory;
 mod way;
 
+pub use hunt::meet;
 pub use layout::FORE;
 pub use layout::HIND;
 pub use marks::Marks;
+pub use settling::forget;
+pub use settling::settle;
 pub use theory::adding_past_stands;
 pub use theory::adding_stands;
 pub use theory::cells_alone_stands;
 pub use theory::columns_apart_stands;
 pub use theory::first_of_all_stands;
+pub use theory::forgets_stands;
 pub use theory::framing_stands;
 pub use theory::fresh_memory_stands;
 pub use theory::going_down_stands;
 pub use theory::going_up_stands;
+pub use theory::meets_only_stands;
+pub use theory::meets_stands;
 pub use theory::removing_stands;
+pub use theory::settles_only_stands;
+pub use theory::settles_stands;
 pub use theory::shows_way_stands;
 pub use theory::skipping_down_stands;
 pub use theory::skipping_up_stands;

@@ -2,6 +2,8 @@
 ghost use Rattle.search.specs.MarkLaws.{Adding, Adding-past, Removing, Going-up, Going-down, First-of-all, Skipping-up, Skipping-down};
 ghost use Rattle.search.specs.MarkLaws.{Wiping, Zeros, Fresh-memory, Framing, Cells-alone, Columns-apart};
 ghost use Rattle.search.specs.WayLaws.{Shows-way};
+ghost use Rattle.search.specs.HuntLaws.{Meets, Meets-only};
+ghost use Rattle.search.specs.SettleLaws.{Settles, Settles-only, Forgets};
 
 // A place that is added is marked from then on, and nothing else changes.
 pub fn adding_stands() -> u8
@@ -104,6 +106,41 @@ pub fn columns_apart_stands() -> u8
 // What is shown after the two searches met is a way that goes round.
 pub fn shows_way_stands() -> u8
     ensures { λ _. ⌜ Shows-way ⌝ }
+{
+    0
+}
+
+// For a link that goes backward, `meet` finds out whether it would go round.
+pub fn meets_stands() -> u8
+    ensures { λ _. ⌜ Meets ⌝ }
+{
+    0
+}
+
+// Whatever stands in the memory, `meet` changes no other columns than those of a search.
+pub fn meets_only_stands() -> u8
+    ensures { λ _. ⌜ Meets-only ⌝ }
+{
+    0
+}
+
+// After a search that came to its end, the row is settled.
+pub fn settles_stands() -> u8
+    ensures { λ _. ⌜ Settles ⌝ }
+{
+    0
+}
+
+// Settling changes nothing else, whatever the memory.
+pub fn settles_only_stands() -> u8
+    ensures { λ _. ⌜ Settles-only ⌝ }
+{
+    0
+}
+
+// Forgetting leaves no place marked, and changes nothing else.
+pub fn forgets_stands() -> u8
+    ensures { λ _. ⌜ Forgets ⌝ }
 {
     0
 }

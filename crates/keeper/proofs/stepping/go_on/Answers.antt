@@ -2,14 +2,10 @@ use borrow.Author.Needs.{needs}
 use Rattle.keeper.specs.Own.{went-on}
 use Rattle.keeper.proofs.stepping.go_on.Needs as need
 
-pub returns-in-1 : need.returns-in-1
+pub returns-then-get-ne-MORE : need.returns-then-get-ne-MORE
 unfolding went-on
-returns-in-1 c = search needs
+returns-then-get-ne-MORE c = search needs
 
-pub returns-in-2 : need.returns-in-2
+pub returns : need.returns
 unfolding went-on
-returns-in-2 c = search needs
-
-pub returns-in-rest : need.returns-in-rest
-unfolding went-on
-returns-in-rest c = search needs
+returns c = search needs

@@ -33,7 +33,7 @@ returns-in-Next c =
     (record {
       act = c .go-on .ensures .act ∙ sym (ap (λ (a : Answer). a .act) e);
       memory = c .go-on .ensures .after ∙ sym (ap (λ (a : Answer). a .memory) e);
-      told = sym (ap (λ (a : Answer). a .numbers ++ drop (length (a .numbers)) (c .args .out .now)) e);
+      told = c .go-on .ensures .out ∙ sym (ap (λ (a : Answer). a .numbers ++ drop (length (a .numbers)) (c .args .out .now)) e);
     })
 
 pub returns-else-get-ne-NOTHING : need.returns-else-get-ne-NOTHING
