@@ -17,6 +17,7 @@ use Rattle.links.specs.declared.chain.Chain.the-variants.{Out, In, Pair}
 use Rattle.links.specs.Layout.{pointers, froms, tos}
 use Rattle.links.specs.Meaning.{Tabled}
 use Rattle.links.specs.Frames.{Same, Alike, Only}
+use Rattle.links.proofs.Sameness.{alike-tally, alike-trans}
 use Rattle.search.specs.Layout.{fore, hind, via}
 use Rattle.search.specs.Marks.{marked}
 use Rattle.search.specs.MarkLaws.{Summed}
@@ -91,39 +92,42 @@ unmarked-on m m₁ m₂ a b = record {
   same-hind = λ i. b .same-hind i ∙ a .same-hind i;
 }
 
--- a number of the tally that is the keeper's own
-module _ (m : List ℕ) (k : ℕ) where
-  pub pending-same : Same-row m (written m tally 4 k)
-  pending-same = record {
-    as-long = length-written m tally 4 k;
-    same-count = cell-other m tally 4 0 k (λ z. omega arith);
-    same-fresh = cell-other m tally 4 1 k (λ z. omega arith);
-    same-ids = λ j. cell-apart m tally ids 4 j k refl;
-    same-chain = λ j. cell-apart m tally chain 4 j k refl;
-    same-slots = λ j. cell-apart m tally slots 4 j k refl;
-    same-places = λ j. cell-apart m tally places 4 j k refl;
-  }
+-- m′ is m but for numbers that are the keeper's own
+pub record Noted (m m′ : List ℕ) : Type 0 where
+  pub row : Same-row m m′
+  pub links : Alike m m′
+  pub marks : Unmarked m m′
 
-  pub pending-alike : Alike m (written m tally 4 k)
-  pending-alike = record {
-    same = record {
-      as-long = length-written m tally 4 k;
-      same-live = cell-other m tally 4 2 k (λ z. omega arith);
-      same-end = cell-other m tally 4 3 k (λ z. omega arith);
-      same-from = λ l. cell-apart m tally froms 4 l k refl;
-      same-to = λ l. cell-apart m tally tos 4 l k refl;
-    };
-    pointing = pointing-at;
+pub noted : (m : List ℕ) (j k : ℕ) → 4 ≤ j → Noted m (written m tally j k)
+noted m j k h = record {
+  row = record {
+    as-long = length-written m tally j k;
+    same-count = cell-other m tally j 0 k (λ z. omega arith);
+    same-fresh = cell-other m tally j 1 k (λ z. omega arith);
+    same-ids = λ i. cell-apart m tally ids j i k refl;
+    same-chain = λ i. cell-apart m tally chain j i k refl;
+    same-slots = λ i. cell-apart m tally slots j i k refl;
+    same-places = λ i. cell-apart m tally places j i k refl
+  };
+  links = alike-tally m j k (λ z. omega arith) (λ z. omega arith);
+  marks = record {
+    as-long = length-written m tally j k;
+    same-fore = λ i. cell-apart m tally fore j i k refl;
+    same-hind = λ i. cell-apart m tally hind j i k refl
   }
-    where
-      pointing-at : (c : Chain) (p : ℕ) → cell (written m tally 4 k) (pointers c) p ≡ cell m (pointers c) p
-      pointing-at Out p = cell-apart m tally (pointers Out) 4 p k refl
-      pointing-at In p = cell-apart m tally (pointers In) 4 p k refl
-      pointing-at Pair p = cell-apart m tally (pointers Pair) 4 p k refl
+}
 
-  pub pending-unmarked : Unmarked m (written m tally 4 k)
-  pending-unmarked = record {
-    as-long = length-written m tally 4 k;
-    same-fore = λ i. cell-apart m tally fore 4 i k refl;
-    same-hind = λ i. cell-apart m tally hind 4 i k refl;
-  }
+pub noted-on : (m m₁ m₂ : List ℕ) → Noted m m₁ → Noted m₁ m₂ → Noted m m₂
+noted-on m m₁ m₂ a b = record {
+  row = record {
+    as-long = b .row .as-long ∙ a .row .as-long;
+    same-count = b .row .same-count ∙ a .row .same-count;
+    same-fresh = b .row .same-fresh ∙ a .row .same-fresh;
+    same-ids = λ i. b .row .same-ids i ∙ a .row .same-ids i;
+    same-chain = λ i. b .row .same-chain i ∙ a .row .same-chain i;
+    same-slots = λ i. b .row .same-slots i ∙ a .row .same-slots i;
+    same-places = λ i. b .row .same-places i ∙ a .row .same-places i
+  };
+  links = alike-trans m m₁ m₂ (a .links) (b .links);
+  marks = unmarked-on m m₁ m₂ (a .marks) (b .marks)
+}

@@ -51,10 +51,10 @@ use Rattle.keeper.proofs.Unmoved.{forward-keeps}
 use Rattle.keeper.proofs.Simulation.{Step-kept}
 use Rattle.keeper.proofs.Cases.{forward-kept, round-kept}
 use Rattle.keeper.proofs.Knowing.{names, row-is, fine-cards}
-use Rattle.keeper.proofs.Carrying.{links-same, links-unmarked, ready-again}
+use Rattle.keeper.proofs.Carrying.{noted, links-same, links-unmarked, ready-again}
 use Rattle.keeper.proofs.Saying.{step-said, step-next, went-round, run-done, refuses-kept, missing-is-not, exists-is-not, full-is-not}
 use Rattle.keeper.proofs.Unroll.{shows-refused}
-use Rattle.keeper.proofs.Placing.{settles, is-pending}
+use Rattle.keeper.proofs.Noting.{settles, is-pending}
 use Rattle.keeper.proofs.CardsGo.{all-named}
 use Rattle.keeper.proofs.TwoCards.{Seated, has-row, seated, slots-there, first-absent, second-absent, linked-is, leads-is, backward-is, backward-places}
 
@@ -112,7 +112,7 @@ module _ (m : List ℕ) (R : Ready m) (o : once (edges m) ≡ true) (i : pending
           let b = step-next m₁ (quiet (ends (Refused (ByBoard Cycle)) (leaves-pending m₁ 0))) (went-round m₁ (is-pending m R 2)) in
           round-kept own 3 Means m r (leaves-pending m₁ 0) l (l .from ∷ []) (rw (both, linked-here ∙ n, ld))
           (and-from _ _ (and-from _ _ (eq-eqb (l .from) (l .to) k) (eq-eqb (l .from) (l .from) refl)) refl)
-          (shows-refused own m m₁ (leaves-pending m₁ 0) (Said (Links l)) (l .from ∷ []) a 5 (omega arith) (omega arith) b) (settles m R o 2)
+          (shows-refused own m m₁ (leaves-pending m₁ 0) (Said (Links l)) (l .from ∷ []) a 5 (omega arith) (omega arith) b) (settles m m₁ R o (noted m 4 2 (omega arith)))
 
       -- the first stands first already
       module _ (ne : s ≡ t → ⊥) (fw : cell m places s ≤ cell m places t) where

@@ -16,6 +16,7 @@ pub mod Carrying
 pub mod Saying
 pub mod CardsCome
 pub mod CardsGo
+pub mod Noting
 pub mod Placing
 pub mod TwoCards
 pub mod Unlinking

@@ -53,46 +53,11 @@ use Rattle.keeper.proofs.Unmoved.{goes-keeps}
 use Rattle.keeper.proofs.Simulation.{Step-kept}
 use Rattle.keeper.proofs.Cases.{places-kept}
 use Rattle.keeper.proofs.Knowing.{names, row-is, fine-cards}
-use Rattle.keeper.proofs.Carrying.{pending-same, pending-alike, pending-unmarked, unmarked-on, ready-again}
+use Rattle.keeper.proofs.Carrying.{noted}
+use Rattle.keeper.proofs.Noting.{is-pending, settles}
 use Rattle.keeper.proofs.Saying.{step-said, step-next, went-done, refuses-kept, missing-is-not}
 use Rattle.keeper.proofs.Unroll.{shows-done}
 use Rattle.keeper.proofs.CardsGo.{all-named}
-
--- what is pending is no part of what the memory means
-module _ (m : List ℕ) (R : Ready m) (k : ℕ) where
-  abbrev w : List ℕ
-  w = leaves-pending m k
-
-  pub pending-edges : edges w ≡ edges m
-  pending-edges = edges-alike m w (pending-alike m k .same)
-
-  pub pending-ready : Ready w
-  pending-ready =
-      let d = depends m w (pending-same m k) in
-      ready-again m w R (pending-unmarked m k) (d .0 (R .stands)) (tabled-alike m w (pending-alike m k) (R .tabled))
-      (subst (λ (ls : List Link). fine (record { row = row-of w; links = ls }) ≡ true) (sym pending-edges)
-      (subst (λ (xs : List ℕ). fine (record { row = xs; links = edges m }) ≡ true) (sym (d .2)) (R .fine-so)))
-
-  pub pending-board : card-board m ≡ card-board w
-  pending-board =
-      let d = depends m w (pending-same m k) in
-      ap₂ (λ (xs : List ℕ) (ls : List Link). record { row = xs; links = ls })
-      (row-is m R ∙ sym (d .1) ∙ cards-named w)
-      (sym (ap (map (named (cell w ids))) pending-edges ∙ all-named (cell m ids) (cell w ids) (pending-same m k .same-ids) (edges m)))
-
-  pub is-pending : pending w ≡ k
-  is-pending = cell-same m tally 4 k (omega arith) (let l = R .stands .long in omega arith)
-
--- and so it is when nothing is pending any more
-pub settles : (m : List ℕ) (R : Ready m) → once (edges m) ≡ true → (j : ℕ) → Means (leaves-pending (leaves-pending m j) 0) (card-board m)
-settles m R o j =
-    let Q = pending-ready m R j in
-    record {
-      ready = pending-ready (leaves-pending m j) Q 0;
-      single = ap once (pending-edges (leaves-pending m j) Q 0 ∙ pending-edges m R j) ∙ o;
-      idle = is-pending (leaves-pending m j) Q 0;
-      is = pending-board m R j ∙ pending-board (leaves-pending m j) Q 0;
-    }
 
 module _ (m : List ℕ) (R : Ready m) (o : once (edges m) ≡ true) (i : pending m ≡ 0) (a b : ℕ) (sm : small-command (Places a b) ≡ true) where
   abbrev r : Board
@@ -130,7 +95,7 @@ module _ (m : List ℕ) (R : Ready m) (o : once (edges m) ≡ true) (i : pending
       let e = step-said m (Places a b) (record { act = Shows 2; memory = m₁; numbers = ks }) i sm (rw (at a h, at b g)) in
       let f = step-next m₁ (quiet (ends Done (leaves-pending m₁ 0))) (went-done m₁ (is-pending m R 1)) in
       places-kept own 3 Means m r (leaves-pending m₁ 0) (fine-cards m R) a b (rw (has-row a ∙ h, has-row b ∙ g))
-      (shows-done own m m₁ (leaves-pending m₁ 0) (Said (Places a b)) ks e f) (settles m R o 1)
+      (shows-done own m m₁ (leaves-pending m₁ 0) (Said (Places a b)) ks e f) (settles m m₁ R o (noted m 4 1 (omega arith)))
 
   pub places-means : Step-kept own 3 Means m r (Places a b)
   places-means = elim (cases-bool (has (cards m) a)) [

@@ -80,6 +80,15 @@ map-map : (f g : ℕ → ℕ) (xs : List ℕ) → map f (map g xs) ≡ map (λ x
 map-map f g [] = refl
 map-map f g (x ∷ xs) = ap (λ (zs : List ℕ). f (g x) ∷ zs) (map-map f g xs)
 
+-- the cards at the slots from a place on are the row's middle
+pub middle-is : (m : List ℕ) (p n : ℕ) → Stands m → p + n ≤ count m →
+    map (cell m ids) (take n (drop (slots .base + p) m)) ≡ take n (drop p (cards m))
+middle-is m p n S h =
+    let r = S .stands .room in
+    let f = S .stands .few in
+    ap (map (cell m ids)) (part-is m p n (S .long) (omega arith)) ∙ map-map (cell m ids) (cell m slots) (counting p n)
+    ∙ sym (take-made (λ q. cell m ids (cell m slots q)) (count m) p n h)
+
 pub tells-middle : Tells
 unfolding told told-count
 tells-middle m p n out S h i =
@@ -89,7 +98,5 @@ tells-middle m p n out S h i =
     let l = S .long in
     let t : (leb (p + n) 8192 && (leb 32976 (length m) && leb n (length out))) ≡ true = grind (arith, tells) in (
       rw t,
-      rw t (ap (λ (zs : List ℕ). zs ++ drop n out)
-          (ap (map (cell m ids)) (part-is m p n l (omega arith)) ∙ map-map (cell m ids) (cell m slots) (counting p n)
-          ∙ sym (take-made (λ q. cell m ids (cell m slots q)) (count m) p n (omega arith)))),
+      rw t (ap (λ (zs : List ℕ). zs ++ drop n out) (middle-is m p n S (omega arith))),
     )
