@@ -21,3 +21,4 @@ pub mod Placing
 pub mod TwoCards
 pub mod Unlinking
 pub mod Forward
+pub mod Backward
