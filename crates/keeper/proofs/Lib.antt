@@ -22,3 +22,4 @@ pub mod TwoCards
 pub mod Unlinking
 pub mod Forward
 pub mod Backward
+pub mod Moving
