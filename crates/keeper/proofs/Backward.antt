@@ -189,7 +189,7 @@ module _ (m : List ℕ) (R : Ready m) (o : once (edges m) ≡ true) (i : pending
         (subst (λ (p : ℕ). goes-round r (cell m ids s) p (map (cell m ids) (way-of m₁ s t (y .from) (y .to))) ≡ true) (B .card)
         (names m R .way-named s t (way-of m₁ s t (y .from) (y .to)) (W .cards) (W .round))))
 
-    round : Step-kept own 3 Means m r (Links l)
+    pub round : Step-kept own 3 Means m r (Links l)
     unfolding refusal shown-round
     round =
         let m₂ = leaves-pending q′ 2 in

@@ -7,6 +7,7 @@ pub mod Cases
 pub mod Size
 pub mod RowSize
 pub mod Zeros
+pub mod OwnSize
 pub mod Same
 pub mod Excluding
 pub mod Fitting
@@ -23,3 +24,4 @@ pub mod Unlinking
 pub mod Forward
 pub mod Backward
 pub mod Moving
+pub mod ToldParts

@@ -139,7 +139,7 @@ module _ (m : List ℕ) (R : Ready m) (o : once (edges m) ≡ true) (i : pending
     abbrev m₂ : List ℕ
     m₂ = settled m₁
 
-    abbrev m₃ : List ℕ
+    abbrev pub m₃ : List ℕ
     m₃ = inserted m₂ x
 
     S : Settled m m₂ s t
@@ -164,18 +164,18 @@ module _ (m : List ℕ) (R : Ready m) (o : once (edges m) ≡ true) (i : pending
     every-used : every (used m) (row-of m₂) ≡ true
     every-used = every-more (used m₂) (used m) (λ u e. sym (S .same-used u) ∙ e) (row-of m₂) (row-used m₂ (S .stands))
 
-    abbrev new : List ℕ
+    abbrev pub new : List ℕ
     new = map (cell m ids) (row-of m₂)
 
-    new-cards : cards m₃ ≡ new
+    pub new-cards : cards m₃ ≡ new
     new-cards = D .1 ∙ cards-named m₂ ∙ map-same (cell m₂ ids) (cell m ids) (S .same-ids) (row-of m₂)
 
-    is-firm : firm r (l .from) (l .to) new ≡ true
+    pub is-firm : firm r (l .from) (l .to) new ≡ true
     is-firm =
         ap₂ (λ (p q : ℕ). firm r p q new) (sym (A .card)) (sym (B .card))
         ∙ names m R .firm-named s t (row-of m₂) (A .in-use) (B .in-use) every-used ∙ S .is-firm
 
-    keeps-all : keeps new (with-link r (l .from) (l .to)) ≡ true
+    pub keeps-all : keeps new (with-link r (l .from) (l .to)) ≡ true
     keeps-all =
         ap₂ (λ (p q : ℕ). keeps new (with-link r p q)) (sym (A .card)) (sym (B .card))
         ∙ names m R .keeps-with-link-named s t (row-of m₂) (A .in-use) (B .in-use) every-used ∙ S .keeps-links
@@ -183,15 +183,15 @@ module _ (m : List ℕ) (R : Ready m) (o : once (edges m) ≡ true) (i : pending
     length-row-of : (k : List ℕ) → length (row-of k) ≡ count k
     length-row-of k = length-map-counting (cell k slots) 0 (count k)
 
-    as-long : length new ≡ length (r .row)
+    pub as-long : length new ≡ length (r .row)
     as-long =
         length-map (row-of m₂) (cell m ids) ∙ length-row-of m₂ ∙ S .same-tally 0 ∙ sym (length-map (row-of m) (cell m ids) ∙ length-row-of m)
 
-    allowed : refusal r (Links l) ≡ None
+    pub allowed : refusal r (Links l) ≡ None
     unfolding refusal
     allowed = rw (all-in, not-linked, no-round, lt-leb 65536 (length (r .links)) (omega (arith, links-counted)))
 
-    goes-back : backward r (l .from) (l .to) ≡ true
+    pub goes-back : backward r (l .from) (l .to) ≡ true
     goes-back = backward-is m R (l .from) (l .to) s t A B ∙ backward-places m R (l .from) (l .to) s t A B ∙ lt-ltb low high w
 
     fine-after : fine (slot-board m₃) ≡ true
@@ -205,7 +205,7 @@ module _ (m : List ℕ) (R : Ready m) (o : once (edges m) ≡ true) (i : pending
         subst (λ (ls : List Link). fine (record { row = row-of m₃; links = ls }) ≡ true) (sym edges-are)
         (subst (λ (xs : List ℕ). fine (record { row = xs; links = with-link b s t }) ≡ true) (sym (D .2)) f)
 
-    Q : Ready m₃
+    pub Q : Ready m₃
     Q =
         let u = links-unmarked m₂ m₃ only in
         let a = cells-alone m₂ m₃ fore (u .same-fore) in
@@ -239,17 +239,17 @@ module _ (m : List ℕ) (R : Ready m) (o : once (edges m) ≡ true) (i : pending
     once-after = ap once edges-are ∙ stays-once .1 (edges m) x o n
 
     -- the memory at the end, with nothing but the keeper's own numbers changed
-    at-end : (k : List ℕ) → Noted m₃ k → Means (leaves-pending k 0) board
+    pub at-end : (k : List ℕ) → Noted m₃ k → Means (leaves-pending k 0) board
     at-end k N = subst (Means (leaves-pending k 0)) (sym board-after) (settles m₃ k Q once-after N)
 
-    place-low : place (r .row) (l .to) ≡ low
+    pub place-low : place (r .row) (l .to) ≡ low
     place-low = ap (place (r .row)) (sym (B .card)) ∙ names m R .place-named t (B .in-use) ∙ place-slot m (R .stands) t (B .in-use)
 
-    place-high : place (r .row) (l .from) ≡ high
+    pub place-high : place (r .row) (l .from) ≡ high
     place-high = ap (place (r .row)) (sym (A .card)) ∙ names m R .place-named s (A .in-use) ∙ place-slot m (R .stands) s (A .in-use)
 
-    same-count : count m₃ ≡ count m
+    pub same-count : count m₃ ≡ count m
     same-count = only .tallies 0 (λ z. omega arith) (λ z. omega arith) ∙ S .same-tally 0
 
-    bounds : (high < count m) × (count m ≤ 8192)
+    pub bounds : (high < count m) × (count m ≤ 8192)
     bounds = let f = R .stands .stands .few in let q = R .stands .stands .room in (used-place m (R .stands) s (A .in-use) .0, omega arith)

@@ -43,6 +43,10 @@ sought-below (suc f) m p k =
     given-holds Below Entry-below (followed m p) _ _ (followed-below m p) tt (λ s l.
     cond-both (eqb (cell m ids s) k) (Some (entry p s)) (sought f m (8192 + s) k) Entry-below (λ _. l) (λ _. sought-below f m (8192 + s) k))
 
+pub found-below : (m : List ℕ) (k : ℕ) → Below (found m k)
+unfolding found
+found-below m k = given-holds Entry-below Below (sought 8192 m (bucket k) k) _ _ (sought-below 8192 m (bucket k) k) tt (λ e l. l)
+
 -- a card comes
 size-entered : (m : List ℕ) (s k : ℕ) → s < 8192 → k < 18446744073709551616 → Keeps-size m (entered m s k)
 unfolding entered

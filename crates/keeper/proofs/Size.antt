@@ -30,7 +30,7 @@ every-set f [] i v h g = refl
 every-set f (x ∷ xs) zero v h g = let p = and-parts (f x) (every f xs) h in and-from _ _ g (p .1)
 every-set f (x ∷ xs) (suc i) v h g = let p = and-parts (f x) (every f xs) h in and-from _ _ (p .0) (every-set f xs i v (p .1) g)
 
-every-getD : (f : ℕ → Bool) (m : List ℕ) (i d : ℕ) → every f m ≡ true → f d ≡ true → f (getD m i d) ≡ true
+pub every-getD : (f : ℕ → Bool) (m : List ℕ) (i d : ℕ) → every f m ≡ true → f d ≡ true → f (getD m i d) ≡ true
 unfolding every
 every-getD f [] i d h g = g
 every-getD f (x ∷ xs) zero d h g = and-parts (f x) (every f xs) h .0
