@@ -58,7 +58,6 @@ use Rattle.keeper.proofs.Forward.{both, linked-here}
 use Rattle.keeper.proofs.Noting.{settles, is-pending}
 use Rattle.keeper.proofs.CardsGo.{all-named}
 use Rattle.keeper.proofs.TwoCards.{Seated, has-row, seated, slots-there, first-absent, second-absent, linked-is, leads-is, backward-is, backward-places}
-
 use lib.ListN.{take, drop, replicate, length-replicate}
 use Rattle.std.proofs.shelf.Lists.{take-all}
 use Rattle.row.specs.Laws.{Same-row}
@@ -102,7 +101,7 @@ module _ (m m₁ : List ℕ) (R : Ready m) (K : Kept m m₁) (f : Summed m₁ fo
     same-ids = λ j. only .others ids j refl refl ∙ K .same-ids j;
     same-chain = λ j. only .others chain j refl refl ∙ K .same-chain j;
     same-slots = λ j. only .others slots j refl refl ∙ K .same-slots j;
-    same-places = λ j. only .others places j refl refl ∙ K .same-places j
+    same-places = λ j. only .others places j refl refl ∙ K .same-places j;
   }
 
   forgotten-alike : Alike m₁ q
@@ -112,15 +111,15 @@ module _ (m m₁ : List ℕ) (R : Ready m) (K : Kept m m₁) (f : Summed m₁ fo
       same-live = only .others tally 2 refl refl;
       same-end = only .others tally 3 refl refl;
       same-from = λ l. only .others froms l refl refl;
-      same-to = λ l. only .others tos l refl refl
+      same-to = λ l. only .others tos l refl refl;
     };
-    pointing = pointing-at
+    pointing = pointing-at;
   }
     where
-    pointing-at : (c : Chain) (p : ℕ) → cell q (pointers c) p ≡ cell m₁ (pointers c) p
-    pointing-at Out p = only .others (pointers Out) p refl refl
-    pointing-at In p = only .others (pointers In) p refl refl
-    pointing-at Pair p = only .others (pointers Pair) p refl refl
+      pointing-at : (c : Chain) (p : ℕ) → cell q (pointers c) p ≡ cell m₁ (pointers c) p
+      pointing-at Out p = only .others (pointers Out) p refl refl
+      pointing-at In p = only .others (pointers In) p refl refl
+      pointing-at Pair p = only .others (pointers Pair) p refl refl
 
   pub forgotten-edges : edges q ≡ edges m
   forgotten-edges = edges-alike m₁ q (forgotten-alike .same) ∙ K .same-edges
@@ -142,7 +141,7 @@ module _ (m m₁ : List ℕ) (R : Ready m) (K : Kept m m₁) (f : Summed m₁ fo
         via-room = let w = R .via-room in omega arith;
         fine-so =
             subst (λ (ls : List Link). fine (record { row = row-of q; links = ls }) ≡ true) (sym forgotten-edges)
-            (subst (λ (xs : List ℕ). fine (record { row = xs; links = edges m }) ≡ true) (sym (d .2)) (R .fine-so))
+            (subst (λ (xs : List ℕ). fine (record { row = xs; links = edges m }) ≡ true) (sym (d .2)) (R .fine-so));
       }
 
   pub forgotten-board : card-board m ≡ card-board q
@@ -195,7 +194,7 @@ module _ (m : List ℕ) (R : Ready m) (o : once (edges m) ≡ true) (i : pending
         let m₂ = leaves-pending q′ 2 in
         let ld : leads r (l .to) (l .from) ≡ true = leads-is m R (l .from) (l .to) s t A B ∙ T .round in
         let e : own .step m (Said (Links l)) ≡ steps-to m₂ (shows ks) =
-            step-said m (Links l) _ i sm se ∙ ap (λ (zs : List ℕ). steps-to m₂ (shows zs)) (take-all (length ks) ks (omega arith)) in
+        step-said m (Links l) _ i sm se ∙ ap (λ (zs : List ℕ). steps-to m₂ (shows zs)) (take-all (length ks) ks (omega arith)) in
         let g = step-next m₂ _ (went-round m₂ (is-pending q′ Q 2)) in
         round-kept own 3 Means m r (leaves-pending m₂ 0) l ks
         (rw (both m R o i l sm s t A B ha hb, linked-here m R o i l sm s t A B ha hb ∙ n, ld)) goes

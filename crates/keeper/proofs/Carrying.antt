@@ -107,14 +107,14 @@ noted m j k h = record {
     same-ids = λ i. cell-apart m tally ids j i k refl;
     same-chain = λ i. cell-apart m tally chain j i k refl;
     same-slots = λ i. cell-apart m tally slots j i k refl;
-    same-places = λ i. cell-apart m tally places j i k refl
+    same-places = λ i. cell-apart m tally places j i k refl;
   };
   links = alike-tally m j k (λ z. omega arith) (λ z. omega arith);
   marks = record {
     as-long = length-written m tally j k;
     same-fore = λ i. cell-apart m tally fore j i k refl;
-    same-hind = λ i. cell-apart m tally hind j i k refl
-  }
+    same-hind = λ i. cell-apart m tally hind j i k refl;
+  };
 }
 
 pub noted-on : (m m₁ m₂ : List ℕ) → Noted m m₁ → Noted m₁ m₂ → Noted m m₂
@@ -126,8 +126,8 @@ noted-on m m₁ m₂ a b = record {
     same-ids = λ i. b .row .same-ids i ∙ a .row .same-ids i;
     same-chain = λ i. b .row .same-chain i ∙ a .row .same-chain i;
     same-slots = λ i. b .row .same-slots i ∙ a .row .same-slots i;
-    same-places = λ i. b .row .same-places i ∙ a .row .same-places i
+    same-places = λ i. b .row .same-places i ∙ a .row .same-places i;
   };
   links = alike-trans m m₁ m₂ (a .links) (b .links);
-  marks = unmarked-on m m₁ m₂ (a .marks) (b .marks)
+  marks = unmarked-on m m₁ m₂ (a .marks) (b .marks);
 }

@@ -25,3 +25,4 @@ pub mod Forward
 pub mod Backward
 pub mod Moving
 pub mod ToldParts
+pub mod Wholly

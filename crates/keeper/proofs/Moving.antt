@@ -59,7 +59,6 @@ use Rattle.keeper.proofs.Forward.{both, linked-here}
 use Rattle.keeper.proofs.Noting.{settles, is-pending}
 use Rattle.keeper.proofs.CardsGo.{all-named}
 use Rattle.keeper.proofs.TwoCards.{Seated, has-row, seated, slots-there, first-absent, second-absent, linked-is, leads-is, backward-is, backward-places}
-
 use lib.ListN.{take, drop, replicate, length-replicate}
 use Rattle.std.proofs.shelf.Lists.{take-take}
 use Rattle.std.proofs.shelf.Counted.{length-map-counting}
@@ -132,7 +131,7 @@ module _ (m : List ℕ) (R : Ready m) (o : once (edges m) ≡ true) (i : pending
         ready = forgotten-ready m m₁ R K (P .fore-summed) (P .hind-summed);
         single = ap once (forgotten-edges m m₁ R K (P .fore-summed) (P .hind-summed)) ∙ o;
         idle = forgotten-tally m m₁ R K (P .fore-summed) (P .hind-summed) 4 ∙ i;
-        is = forgotten-board m m₁ R K (P .fore-summed) (P .hind-summed)
+        is = forgotten-board m m₁ R K (P .fore-summed) (P .hind-summed);
       })
 
   module _ (h : live m < 65536) where
@@ -199,7 +198,7 @@ module _ (m : List ℕ) (R : Ready m) (o : once (edges m) ≡ true) (i : pending
     fine-after =
         let b = slot-board m in
         let re : refusal b (Links x) ≡ None =
-            sym (names m R .refusal-named s t (A .in-use) (B .in-use)) ∙ ap₂ (λ (p q : ℕ). refusal r (Links (p ⟶ q))) (A .card) (B .card) ∙ allowed in
+        sym (names m R .refusal-named s t (A .in-use) (B .in-use)) ∙ ap₂ (λ (p q : ℕ). refusal r (Links (p ⟶ q))) (A .card) (B .card) ∙ allowed in
         let bk : backward b s t ≡ true = sym (backward-is m R (l .from) (l .to) s t A B) ∙ goes-back in
         let f = stays b (Links x) (row-of m₂) (R .fine-so) re (must-may b (Links x) (row-of m₂) (rw bk (S .is-firm))) (S .keeps-links) in
         subst (λ (ls : List Link). fine (record { row = row-of m₃; links = ls }) ≡ true) (sym edges-are)
@@ -220,7 +219,7 @@ module _ (m : List ℕ) (R : Ready m) (o : once (edges m) ≡ true) (i : pending
           fore-none = λ p. a .0 p ∙ S .unmarked .fore-none p;
           hind-none = λ p. b .0 p ∙ S .unmarked .hind-none p;
           via-room = let z = R .via-room in omega arith;
-          fine-so = fine-after
+          fine-so = fine-after;
         }
 
     abbrev board : Board
@@ -230,9 +229,9 @@ module _ (m : List ℕ) (R : Ready m) (o : once (edges m) ≡ true) (i : pending
     board-after =
         let a : new ≡ card-board m₃ .row = sym new-cards ∙ cards-named m₃ in
         let b : with-link r (l .from) (l .to) ≡ card-board m₃ .links =
-            ap₂ (λ (p q : ℕ). with-link r p q) (sym (A .card)) (sym (B .card)) ∙ names m R .with-link-named s t
-            ∙ sym (all-named (cell m ids) (cell m₃ ids) same-ids (with-link (slot-board m) s t))
-            ∙ ap (map (named (cell m₃ ids))) (sym edges-are) in
+        ap₂ (λ (p q : ℕ). with-link r p q) (sym (A .card)) (sym (B .card)) ∙ names m R .with-link-named s t
+        ∙ sym (all-named (cell m ids) (cell m₃ ids) same-ids (with-link (slot-board m) s t))
+        ∙ ap (map (named (cell m₃ ids))) (sym edges-are) in
         ap₂ (λ (xs : List ℕ) (ls : List Link). record { row = xs; links = ls }) a b
 
     once-after : once (edges m₃) ≡ true

@@ -88,5 +88,5 @@ settles m m′ R o N =
       ready = noted-ready m′ (leaves-pending m′ 0) Q Z;
       single = ap once (noted-edges m′ (leaves-pending m′ 0) Q Z ∙ noted-edges m m′ R N) ∙ o;
       idle = is-pending m′ Q 0;
-      is = noted-board m m′ R N ∙ noted-board m′ (leaves-pending m′ 0) Q Z
+      is = noted-board m m′ R N ∙ noted-board m′ (leaves-pending m′ 0) Q Z;
     }

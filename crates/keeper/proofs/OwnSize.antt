@@ -139,9 +139,10 @@ sized-told : (m : List ℕ) (i j : ℕ) → Sized m (told-part m i j)
 unfolding told-part
 sized-told m i j =
     let n = min (min j 8192 - min i 8192) 4096 in
-    let ks = middle m (min i 8192) n in
-    (size-left m (min i 8192 + n) (min j 8192) (omega arith) (omega arith),
-    λ h. fits-tells (min i 8192) (take n ks) (omega arith) (omega (arith, length-take n ks)) (small-take n ks (small-middle m (min i 8192) n h)))
+    let ks = middle m (min i 8192) n in (
+      size-left m (min i 8192 + n) (min j 8192) (omega arith) (omega arith),
+      λ h. fits-tells (min i 8192) (take n ks) (omega arith) (omega (arith, length-take n ks)) (small-take n ks (small-middle m (min i 8192) n h)),
+    )
 
 -- numbers are shown
 abbrev shows-of : List ℕ → ℕ → List ℕ → Answer

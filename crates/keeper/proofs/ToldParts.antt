@@ -59,7 +59,6 @@ use Rattle.keeper.proofs.Forward.{both, linked-here}
 use Rattle.keeper.proofs.Noting.{noted-ready, settles, is-pending}
 use Rattle.keeper.proofs.CardsGo.{all-named}
 use Rattle.keeper.proofs.TwoCards.{Seated, has-row, seated, slots-there, first-absent, second-absent, linked-is, leads-is, backward-is, backward-places}
-
 use lib.ListN.{take, drop, length-take}
 use Rattle.std.proofs.shelf.Lists.{take-take}
 use Rattle.std.proofs.shelf.Counted.{length-map-counting}
@@ -176,8 +175,8 @@ module _ (m : List ℕ) (R : Ready m) (o : once (edges m) ≡ true) (i : pending
       let c = suc high - low in
       let g = in-row in
       let e : own .step m (Said (Links l)) ≡ steps-to (leaves-pending k 1) (tells low (take c (drop low row))) =
-          step-said m (Links l) (telling k low c (suc high)) i sm (said-is c (omega arith))
-          ∙ ap₂ steps-to (rest-none k (low + c) (suc high) (omega arith)) (told-action k K low c (omega arith) ∙ ap (tells low) (cut low c)) in
+      step-said m (Links l) (telling k low c (suc high)) i sm (said-is c (omega arith))
+      ∙ ap₂ steps-to (rest-none k (low + c) (suc high) (omega arith)) (told-action k K low c (omega arith) ∙ ap (tells low) (cut low c)) in
       let f = step-next (leaves-pending k 1) _ (went-done (leaves-pending k 1) (is-pending k K 1)) in
       backward-kept r l (allowed m R o i l sm s t A B ha hb n w m₁ P h) (goes-back m R o i l sm s t A B ha hb n w m₁ P h) row
       (is-firm m R o i l sm s t A B ha hb n w m₁ P h) (keeps-all m R o i l sm s t A B ha hb n w m₁ P h) (as-long m R o i l sm s t A B ha hb n w m₁ P h)

@@ -34,7 +34,7 @@ use Rattle.keeper.specs.declared.event.Reason.the-variants.{Unfit, Idle, Busy,
 use Rattle.keeper.specs.declared.event.Act.{Act}
 use Rattle.keeper.specs.declared.event.Act.the-variants.{Tells, Shows, Done, Refused}
 use Rattle.keeper.specs.Engine.{action-of, Step, Engine}
-use Rattle.keeper.specs.Sized.{guarded}
+use Rattle.keeper.specs.Sized.{small-event, guarded}
 use Rattle.keeper.specs.Answers.{Answer, Ended, quiet, ends, refuses, pending, leaves-pending, by-result}
 use Rattle.keeper.specs.Telling.{told-part}
 use Rattle.keeper.specs.Linking.{linked, unlinked}
@@ -78,11 +78,12 @@ own = record { start = replicate 524288 0; step = guarded steps }
 abbrev pub step-fits : List ℕ → List ℕ → Bool
 step-fits m out = eqb (length m) 524288 && leb 8192 (length out)
 
--- the answer, told
+-- the engine's step, told: the act with the numbers is its action, and the numbers stand at the front of the output
 pub record Taken (m : List ℕ) (ev : Event) (out : List ℕ) (r : Act) (m₁ out₁ : List ℕ) : Type 0 where
   pub act : r ≡ answer m ev .act
   pub memory : m₁ ≡ answer m ev .memory
   pub told : out₁ ≡ answer m ev .numbers ++ drop (length (answer m ev .numbers)) out
+  pub own-step : small-event ev ≡ true → own .step m ev ≡ record { memory = m₁; action = action-of r (answer m ev .numbers) }
 
 -- nothing changed
 pub record Untaken (m out : List ℕ) (r : Act) (m₁ out₁ : List ℕ) : Type 0 where

@@ -4,7 +4,10 @@ ghost use mathlib.Core.List.{_++_};
 ghost use Prim.Native.Nat.{_≤_};
 ghost use lib.ListN.{length, drop};
 ghost use Rattle.row.specs.Moves.{came};
-ghost use Rattle.keeper.specs.Own.{ended, left, shown-places, said, finished, went-on, Step-says};
+ghost use Rattle.keeper.specs.Own.{ended, left, shown-places, said, finished, went-on, own, Step-says};
+ghost use Rattle.keeper.specs.Promise.{Whole};
+ghost use Rattle.keeper.specs.Sister.{Whole-in};
+ghost use Rattle.keeper.specs.Sized.{Fits};
 use crate::event::Act;
 use crate::event::Event;
 use crate::event::Reason;
@@ -117,9 +120,13 @@ fn go_on(memory: &mut [u64], out: &mut [u64]) -> Act
     tell_part(memory, from, to, out)
 }
 
-// One step: the answer to an event, the memory after it, and what is told or shown at the front of `out`.
+// One step: the answer to an event, the memory after it, and what is told or shown at the front of `out`. The engine whose steps these are meets the
+// promise, and its firmer sister within three steps; whatever stands in the memory, its answers fit.
 pub fn step(memory: &mut [u64], event: Event, out: &mut [u64]) -> Act
-    ensures { λ r. ⌜ Step-says (now (memory .entry)) event (now (out .entry)) r (now (memory .exit)) (now (out .exit)) ⌝ }
+    ensures says { λ r. ⌜ Step-says (now (memory .entry)) event (now (out .entry)) r (now (memory .exit)) (now (out .exit)) ⌝ }
+    ensures whole { λ _. ⌜ Whole own ⌝ }
+    ensures firmer { λ _. ⌜ Whole-in 3 own ⌝ }
+    ensures fits { λ _. ⌜ Fits own ⌝ }
 {
     if memory.len() != MEMORY || out.len() < OUTPUT {
         return Act::Refused(Reason::Unfit);

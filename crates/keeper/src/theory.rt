@@ -1,5 +1,8 @@
 // What is proved of engines: a function for each statement, whose contract it is.
-ghost use Rattle.keeper.specs.Sister.{Soon-is-more, End-stays, One-board};
+ghost use Rattle.keeper.specs.Own.{own};
+ghost use Rattle.keeper.specs.Promise.{Whole};
+ghost use Rattle.keeper.specs.Sister.{Whole-in, Soon-is-more, End-stays, One-board};
+ghost use Rattle.keeper.specs.Sized.{Fits};
 ghost use Rattle.keeper.specs.Excluded.{Idle-is-not, Endless-is-not};
 
 // What meets the firmer promise meets the promise.
@@ -33,6 +36,27 @@ pub fn idle_is_not_stands() -> u8
 // An engine that never comes to an end doesn't meet the promise.
 pub fn endless_is_not_stands() -> u8
     ensures { λ _. ⌜ Endless-is-not ⌝ }
+{
+    0
+}
+
+// The keeper's engine meets the promise.
+pub fn whole_stands() -> u8
+    ensures { λ _. ⌜ Whole own ⌝ }
+{
+    0
+}
+
+// It meets the firmer promise, with each command at its end within three steps.
+pub fn whole_in_stands() -> u8
+    ensures { λ _. ⌜ Whole-in 3 own ⌝ }
+{
+    0
+}
+
+// Its answers fit what carries them, whatever stands in its memory.
+pub fn fits_stands() -> u8
+    ensures { λ _. ⌜ Fits own ⌝ }
 {
     0
 }
