@@ -19,7 +19,7 @@ use Rattle.row.specs.Commands.{number, Told}
 use Rattle.keeper.specs.declared.event.Event.{Event}
 use Rattle.keeper.specs.declared.event.Event.the-variants.{Said, Next}
 use Rattle.keeper.specs.declared.event.Reason.{Reason}
-use Rattle.keeper.specs.declared.event.Reason.the-variants.{Unfit, Idle, Busy, Board, NotYet}
+use Rattle.keeper.specs.declared.event.Reason.the-variants.{Unfit, Idle, Busy, Board}
 use Rattle.keeper.specs.declared.event.Act.{Act}
 use Rattle.keeper.specs.declared.event.Act.the-variants.{Tells, Shows, Done, Refused}
 
@@ -28,7 +28,6 @@ reason-number Unfit = 0
 reason-number Idle = 1
 reason-number Busy = 2
 reason-number (Board e) = number e
-reason-number NotYet = 9
 
 pub data Action : Type 0 where
   tells : ℕ → List ℕ → Action

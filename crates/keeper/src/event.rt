@@ -11,15 +11,14 @@ pub enum Event {
     Next,
 }
 
-// Why nothing is done: what was said or lent doesn't fit, there is nothing to go on with, the last command isn't at its end, the board refuses the
-// command, or the command can't be done yet.
+// Why nothing is done: what was said or lent doesn't fit, there is nothing to go on with, the last command isn't at its end, or the board refuses the
+// command.
 #[derive(Clone, Copy)]
 pub enum Reason {
     Unfit,
     Idle,
     Busy,
     Board(Refusal),
-    NotYet,
 }
 
 impl Reason {
@@ -32,7 +31,6 @@ impl Reason {
             Reason::Idle => 1,
             Reason::Busy => 2,
             Reason::Board(refusal) => refusal.number(),
-            Reason::NotYet => 9,
         }
     }
 }

@@ -1,4 +1,4 @@
--- What is so of the row in its memory, in the words of the board. Each is a statement; its proof is asked for by a function of src/theory.rt.
+-- What is so of the row in its memory, in the words of the board. Each is a statement; its proof is asked for by a function of src/laws.rt.
 --
 --   Begins         zeros stand, with no cards
 --   Apart          no card stands twice

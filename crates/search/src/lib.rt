@@ -1,4 +1,4 @@
-// Sets of places, and what is proved of them.
+// What stands between two cards and is touched by a link: looked for from both ends in turn, settled, or shown as a way that goes round.
 mod hunt;
 mod layout;
 mod marks;
