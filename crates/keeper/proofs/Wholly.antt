@@ -65,11 +65,11 @@ module _ (m : List ℕ) (S : Stands m) (T : Tabled m) (f : Summed m fore) (h : S
       fore-none = a;
       hind-none = b;
       via-room = room;
-      fine-so = subst (λ (r : Board). fine r ≡ true) (sym (ap₂ (λ (xs : List ℕ) (ls : List Link). record { row = xs; links = ls }) no-slots none)) refl
+      fine-so = subst (λ (r : Board). fine r ≡ true) (sym (ap₂ (λ (xs : List ℕ) (ls : List Link). record { row = xs; links = ls }) no-slots none)) refl;
     };
     single = ap once none;
     idle = p;
-    is = sym (ap₂ (λ (xs : List ℕ) (ls : List Link). renamed (cell m ids) (record { row = xs; links = ls })) no-slots none)
+    is = sym (ap₂ (λ (xs : List ℕ) (ls : List Link). renamed (cell m ids) (record { row = xs; links = ls })) no-slots none);
   }
 
 -- so zeros do

@@ -14,6 +14,7 @@ pub mod Staying
 pub mod Firm
 pub mod Only
 pub mod Examples
+pub mod Excludes
 pub mod Tabulated
 pub mod RenamesTests
 pub mod RenamesLists

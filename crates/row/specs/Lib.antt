@@ -3,6 +3,7 @@ pub mod Board
 pub mod Commands
 pub mod Theory
 pub mod Week
+pub mod Excluded
 pub mod Renaming
 pub mod Kept
 pub mod Columns

@@ -40,6 +40,7 @@ pub use telling::tell;
 pub use theory::broken_just_stands;
 pub use theory::can_be_firm_stands;
 pub use theory::can_be_stands;
+pub use theory::excluded_stands;
 pub use theory::firm_is_little_stands;
 pub use theory::kept_just_stands;
 pub use theory::leads_before_stands;

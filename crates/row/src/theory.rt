@@ -4,6 +4,7 @@ ghost use Rattle.row.specs.Theory.{Round-there, Only-between, Only-touched, St
 ghost use Rattle.row.specs.Renaming.{Renames};
 ghost use Rattle.row.specs.Kept.{Kept-just, Broken-just, Refused-just};
 ghost use Rattle.row.specs.Week.{Week};
+ghost use Rattle.row.specs.Excluded.{Excluded};
 
 // A link that is not refused can be kept.
 pub fn can_be_stands() -> u8
@@ -99,6 +100,13 @@ pub fn renames_stands() -> u8
 // A week, worked through.
 pub fn week_stands() -> u8
     ensures { λ _. ⌜ Week ⌝ }
+{
+    0
+}
+
+// Rows and ways that one might take for right, and that are not.
+pub fn excluded_stands() -> u8
+    ensures { λ _. ⌜ Excluded ⌝ }
 {
     0
 }

@@ -1,4 +1,4 @@
-// What is proved of sets of places: a function for each statement, whose contract it is.
+// What is proved of sets of places, of the search, of settling and of the way shown: a function for each statement, whose contract it is.
 ghost use Rattle.search.specs.MarkLaws.{Adding, Adding-past, Removing, Going-up, Going-down, First-of-all, Skipping-up, Skipping-down};
 ghost use Rattle.search.specs.MarkLaws.{Wiping, Zeros, Fresh-memory, Framing, Cells-alone, Columns-apart};
 ghost use Rattle.search.specs.WayLaws.{Shows-way};
