@@ -1,86 +1,59 @@
 -- A link that goes backward, found to go round: the way is shown, and the memory means the same board.
 use mathlib.Core.Path.{_≡_, refl, sym, ap, ap₂, subst, _∙_}
-use mathlib.Core.Bool.{Bool, true, false, cond, _&&_, _||_, not}
-use mathlib.Core.List.{List, [], _∷_, _++_, map}
-use mathlib.Core.Logic.{_⊎_, inl, inr, _≢_}
-use Prim.Native.Nat.{ℕ, _+_, _≤_, _<_}
+use mathlib.Core.Bool.{true, false}
+use mathlib.Core.List.{List, map}
+use Prim.Native.Nat.{ℕ}
 use native.Mathlib.Omega.{arith}
-use lib.Dec.{eqb, ltb, leb}
 use lib.ListN.{length}
-use Rattle.std.specs.declared.option.Option.the-variants.{Some, None}
-use Rattle.std.proofs.shelf.Tests.{cases-bool, cases-eq, cases-lt, both-ways, eq-eqb, ne-eqb, lt-ltb, le-ltb, le-leb, lt-leb, and-from}
-use Rattle.row.proofs.Leading.{leads-just, leads-before}
 use Rattle.row.specs.declared.board.Link.{Link}
 use Rattle.row.specs.declared.board.Command.the-variants.{Link as Links}
-use Rattle.row.specs.declared.board.Refusal.{Refusal}
-use Rattle.row.specs.declared.board.Refusal.the-variants.{Missing, Exists, Cycle, Full}
-use Rattle.row.specs.Lists.{any, has, place, filter, distinct}
-use Rattle.row.specs.Board.{Board, _⟶_, linked, leads, fine}
-use Rattle.row.specs.Commands.{number, refusal, may-be, row-before, links-after, with-link, backward, goes-round, follows, last-of}
+use Rattle.row.specs.Lists.{any, has}
+use Rattle.row.specs.Board.{Board, _⟶_, leads, fine}
+use Rattle.row.specs.Commands.{refusal, goes-round}
 use Rattle.row.specs.Columns.{cell}
 use Rattle.row.specs.Layout.{tally, ids, chain, slots, places}
-use Rattle.row.specs.Meaning.{used, row-of, cards, Stands}
-use Rattle.row.specs.Moves.{Outcome, refused}
+use Rattle.row.specs.Meaning.{row-of, cards}
 use Rattle.row.specs.Renaming.{named}
-use Rattle.row.proofs.Filters.{same-itself}
-use Rattle.row.proofs.Staying.{stays}
 use Rattle.row.proofs.Depending.{depends}
-use Rattle.row.proofs.Closes.{used-below}
-use Rattle.row.proofs.Named.{has-slot, place-slot, cards-named}
-use Rattle.row.proofs.Present.{used-place}
+use Rattle.row.proofs.Named.{cards-named}
 use Rattle.links.specs.Entries.{joins}
-use Rattle.links.specs.Entries.{found as entry-found}
-use Rattle.links.specs.Building.{inserted}
-use Rattle.std.specs.Options.{isSome}
-use Rattle.std.specs.declared.option.Option.{Option}
-use Rattle.links.specs.Meaning.{edges, once, Tabled}
-use Rattle.links.specs.Frames.{Only}
-use Rattle.links.proofs.Operating.{counts, inserts, finds, stays-once}
-use Rattle.links.proofs.Bounding.{writes-only}
-use Rattle.search.specs.Meaning.{slot-board, Ready}
-use Rattle.keeper.specs.declared.event.Event.the-variants.{Said, Next}
-use Rattle.keeper.specs.declared.event.Reason.the-variants.{Board as ByBoard}
-use Rattle.keeper.specs.declared.event.Act.the-variants.{Shows, Done, Refused}
+use Rattle.links.specs.Meaning.{edges, once}
+use Rattle.search.specs.Meaning.{Ready}
+use Rattle.keeper.specs.declared.event.Event.the-variants.{Said}
 use Rattle.keeper.specs.Promise.{small-command}
-use Rattle.keeper.specs.Answers.{Answer, quiet, ends, refuses, pending, leaves-pending}
-use Rattle.keeper.specs.Linking.{slots-found, put-in, linked as linking}
+use Rattle.keeper.specs.Answers.{pending, leaves-pending}
 use Rattle.keeper.specs.Own.{said, own}
 use Rattle.keeper.specs.Meaning.{card-board, Means}
-use Rattle.keeper.proofs.Unmoved.{forward-keeps}
 use Rattle.keeper.proofs.Simulation.{Step-kept}
-use Rattle.keeper.proofs.Cases.{forward-kept, round-kept}
-use Rattle.keeper.proofs.Knowing.{names, row-is, fine-cards}
-use Rattle.keeper.proofs.Carrying.{noted, links-same, links-unmarked, ready-again}
-use Rattle.keeper.proofs.Saying.{step-said, step-next, went-round, run-done, refuses-kept, missing-is-not, exists-is-not, full-is-not}
+use Rattle.keeper.proofs.Cases.{round-kept}
+use Rattle.keeper.proofs.Knowing.{names, row-is}
+use Rattle.keeper.proofs.Carrying.{noted}
+use Rattle.keeper.proofs.Saying.{step-said, step-next, went-round}
 use Rattle.keeper.specs.Engine.{shows}
 use Rattle.keeper.proofs.Unroll.{steps-to, shows-refused}
 use Rattle.keeper.proofs.Forward.{both, linked-here}
 use Rattle.keeper.proofs.Noting.{settles, is-pending}
 use Rattle.keeper.proofs.CardsGo.{all-named}
-use Rattle.keeper.proofs.TwoCards.{Seated, has-row, seated, slots-there, first-absent, second-absent, linked-is, leads-is, backward-is, backward-places}
-use lib.ListN.{take, drop, replicate, length-replicate}
+use Rattle.keeper.proofs.TwoCards.{Seated, leads-is}
+use lib.ListN.{replicate, length-replicate}
 use Rattle.std.proofs.shelf.Lists.{take-all}
 use Rattle.row.specs.Laws.{Same-row}
-use Rattle.row.specs.Lists.{every}
 use Rattle.links.specs.Frames.{Alike}
 use Rattle.links.specs.declared.chain.Chain.{Chain}
 use Rattle.links.specs.declared.chain.Chain.the-variants.{Out, In, Pair}
-use Rattle.links.specs.Layout.{live, pointers, froms, tos}
+use Rattle.links.specs.Layout.{pointers, froms, tos}
 use Rattle.links.proofs.Sameness.{edges-alike, tabled-alike}
-use Rattle.search.specs.Layout.{fore, hind, via}
-use Rattle.search.specs.Hunt.{Met, meeting}
-use Rattle.search.specs.Settle.{forgotten, settled}
-use Rattle.search.specs.Way.{way, shown}
+use Rattle.search.specs.Layout.{fore, hind}
+use Rattle.search.specs.Hunt.{meeting}
+use Rattle.search.specs.Settle.{forgotten}
 use Rattle.search.specs.WayLaws.{way-of, Round}
 use Rattle.search.specs.MarkLaws.{Summed}
-use Rattle.search.specs.Meaning.{Kept, Parted, Trailed}
-use Rattle.search.specs.HuntLaws.{Found}
+use Rattle.search.specs.Meaning.{Kept, Trailed}
 use Rattle.search.specs.SettleLaws.{Unmarked, Only-sets}
-use Rattle.search.proofs.Starting.{meets}
 use Rattle.search.proofs.SettleFrames.{forgets}
 use Rattle.search.proofs.Joining.{shown-is}
 use Rattle.search.proofs.Showing.{shows-way}
-use Rattle.keeper.specs.Reordering.{round-cards, shown-round, moved, reordered}
+use Rattle.keeper.specs.Reordering.{round-cards, shown-round}
 
 -- the marks forgotten after a search, the memory is as it was before it
 module _ (m m₁ : List ℕ) (R : Ready m) (K : Kept m m₁) (f : Summed m₁ fore) (h : Summed m₁ hind) where

@@ -1,27 +1,25 @@
 -- A card comes: the memory means the board with one card more.
 use mathlib.Core.Path.{_≡_, refl, sym, ap, ap₂, subst, _∙_}
-use mathlib.Core.Bool.{Bool, true, false, cond, _&&_}
+use mathlib.Core.Bool.{Bool, true, false, _&&_}
 use mathlib.Core.List.{List, [], _∷_, _++_, map}
-use mathlib.Core.Logic.{_⊎_, inl, inr}
+use mathlib.Core.Logic.{inl, inr}
 use Prim.Native.Nat.{ℕ, _≤_, _<_}
 use native.Mathlib.Omega.{arith}
-use lib.Dec.{eqb, leb}
 use lib.ListN.{length}
-use Rattle.std.specs.declared.option.Option.the-variants.{Some, None}
-use Rattle.std.specs.declared.result.Result.the-variants.{Ok, Err}
+use Rattle.std.specs.declared.result.Result.the-variants.{Ok}
 use Rattle.std.proofs.shelf.Tests.{cases-bool, cases-lt, le-leb, lt-leb, and-parts, both-ways}
 use Rattle.row.specs.declared.board.Link.{Link}
 use Rattle.row.specs.declared.board.Command.the-variants.{Comes}
 use Rattle.row.specs.declared.board.Refusal.the-variants.{Exists, Full}
 use Rattle.row.specs.Lists.{every, has}
 use Rattle.row.specs.Board.{Board, fine}
-use Rattle.row.specs.Commands.{refusal, may-be, row-before, links-after, told-rows}
+use Rattle.row.specs.Commands.{refusal, may-be, row-before, links-after}
 use Rattle.row.specs.Columns.{cell}
-use Rattle.row.specs.Layout.{tally, ids, slots, count}
+use Rattle.row.specs.Layout.{ids, slots, count}
 use Rattle.std.proofs.shelf.Counted.{length-map-counting}
-use Rattle.row.specs.Moves.{Outcome, refused, came}
-use Rattle.row.specs.Meaning.{used, row-of, cards, Stands}
-use Rattle.row.specs.Renaming.{named, renamed}
+use Rattle.row.specs.Moves.{Outcome, came}
+use Rattle.row.specs.Meaning.{used, row-of, cards}
+use Rattle.row.specs.Renaming.{named}
 use Rattle.row.specs.Laws.{Came, Only-row}
 use Rattle.row.proofs.Filters.{same-itself}
 use Rattle.row.proofs.Staying.{stays}
@@ -29,12 +27,11 @@ use Rattle.row.proofs.Present.{length-cards}
 use Rattle.row.proofs.Named.{cards-named}
 use Rattle.row.proofs.Coming.{comes-appends}
 use Rattle.row.proofs.Elsewhere.{else-stays}
-use Rattle.links.specs.Meaning.{edges, once, Tabled}
+use Rattle.links.specs.Meaning.{edges, once}
 use Rattle.links.proofs.Sameness.{edges-alike, tabled-alike}
 use Rattle.search.specs.Meaning.{slot-board, Ready}
-use Rattle.keeper.specs.declared.event.Act.the-variants.{Done}
 use Rattle.keeper.specs.Promise.{small-command}
-use Rattle.keeper.specs.Answers.{quiet, ends, refuses, pending}
+use Rattle.keeper.specs.Answers.{quiet, pending}
 use Rattle.keeper.specs.Own.{ended, said, own}
 use Rattle.keeper.specs.Meaning.{card-board, Means}
 use Rattle.keeper.proofs.Unmoved.{comes-keeps}

@@ -1,31 +1,27 @@
 -- A card goes: the memory means the board without it and its links.
 use mathlib.Core.Path.{_≡_, refl, sym, ap, ap₂, subst, _∙_}
-use mathlib.Core.Bool.{Bool, true, false, cond, _&&_, _||_, not}
-use mathlib.Core.List.{List, [], _∷_, _++_, map}
-use mathlib.Core.Logic.{_⊎_, inl, inr}
-use Prim.Native.Nat.{ℕ, _≤_, _<_}
+use mathlib.Core.Bool.{true, false, _||_, not}
+use mathlib.Core.List.{List, [], _∷_, map}
+use mathlib.Core.Logic.{inl, inr}
+use Prim.Native.Nat.{ℕ}
 use native.Mathlib.Omega.{arith}
-use lib.Dec.{eqb, leb}
-use lib.ListN.{length}
-use Rattle.std.specs.declared.option.Option.the-variants.{Some, None}
-use Rattle.std.specs.declared.result.Result.the-variants.{Ok, Err}
-use Rattle.std.proofs.shelf.Tests.{cases-bool, cases-lt, le-leb, lt-leb, and-parts, both-ways}
+use lib.Dec.{eqb}
+use Rattle.std.specs.declared.result.Result.the-variants.{Ok}
+use Rattle.std.proofs.shelf.Tests.{cases-bool}
 use Rattle.row.specs.declared.board.Link.{Link}
 use Rattle.row.specs.declared.board.Command.the-variants.{Goes}
 use Rattle.row.specs.declared.board.Refusal.the-variants.{Missing}
-use Rattle.row.specs.Lists.{every, has, filter}
+use Rattle.row.specs.Lists.{has, filter}
 use Rattle.row.specs.Board.{Board, fine}
-use Rattle.row.specs.Commands.{refusal, may-be, row-before, links-after, told-rows}
+use Rattle.row.specs.Commands.{refusal, may-be, row-before, links-after}
 use Rattle.row.specs.Columns.{cell}
-use Rattle.row.specs.Layout.{tally, ids, slots, count}
-use Rattle.std.proofs.shelf.Counted.{length-map-counting}
-use Rattle.row.specs.Moves.{Outcome, refused, gone}
+use Rattle.row.specs.Layout.{ids}
+use Rattle.row.specs.Moves.{gone}
 use Rattle.row.specs.Meaning.{used, row-of, cards, Stands}
-use Rattle.row.specs.Renaming.{named, renamed}
-use Rattle.row.specs.Laws.{Gone, Only-row, Same-row}
+use Rattle.row.specs.Renaming.{named}
+use Rattle.row.specs.Laws.{Gone, Only-row}
 use Rattle.row.proofs.Filters.{same-itself}
 use Rattle.row.proofs.Staying.{stays}
-use Rattle.row.proofs.Present.{length-cards}
 use Rattle.row.proofs.Named.{cards-named}
 use Rattle.row.proofs.Going.{goes-filters}
 use Rattle.row.proofs.Depending.{depends}
@@ -39,10 +35,9 @@ use Rattle.links.proofs.Sameness.{edges-alike, tabled-alike}
 use Rattle.links.proofs.Operating.{removes-all, stays-once}
 use Rattle.links.proofs.Bounding.{writes-only}
 use Rattle.search.specs.Meaning.{slot-board, Ready}
-use Rattle.keeper.specs.declared.event.Act.the-variants.{Done}
 use Rattle.keeper.specs.Promise.{small-command}
-use Rattle.keeper.specs.Answers.{quiet, ends, refuses, pending}
-use Rattle.keeper.specs.Own.{left, said, own}
+use Rattle.keeper.specs.Answers.{pending}
+use Rattle.keeper.specs.Own.{said, own}
 use Rattle.keeper.specs.Meaning.{card-board, Means}
 use Rattle.keeper.proofs.Unmoved.{goes-keeps}
 use Rattle.keeper.proofs.Simulation.{Step-kept}
@@ -50,7 +45,6 @@ use Rattle.keeper.proofs.Cases.{goes-kept}
 use Rattle.keeper.proofs.Knowing.{names, row-is, fine-cards}
 use Rattle.keeper.proofs.Carrying.{row-alike, row-unmarked, links-same, links-unmarked, unmarked-on, ready-again}
 use Rattle.keeper.proofs.Saying.{run-done, refuses-kept, missing-is-not}
-use Rattle.keeper.proofs.CardsCome.{same-names}
 
 -- other names that are the same
 pub all-named : (f g : ℕ → ℕ) → ((t : ℕ) → g t ≡ f t) → (ls : List Link) → map (named g) ls ≡ map (named f) ls

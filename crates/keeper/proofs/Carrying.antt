@@ -1,11 +1,10 @@
 -- What an operation on the row leaves of the links and the marks, and what one on the links leaves of the row and the marks.
-use mathlib.Core.Path.{_≡_, refl, sym, ap, subst, _∙_}
-use mathlib.Core.Bool.{Bool, true, false}
+use mathlib.Core.Path.{_≡_, refl, _∙_}
+use mathlib.Core.Bool.{true}
 use mathlib.Core.List.{List}
-use Prim.Native.Nat.{ℕ, _+_, _≤_, _<_}
+use Prim.Native.Nat.{ℕ, _≤_}
 use native.Mathlib.Omega.{arith}
 use lib.ListN.{length}
-use Rattle.row.specs.declared.column.Column.{Column}
 use Rattle.row.specs.Board.{fine}
 use Rattle.row.specs.Columns.{cell, written}
 use Rattle.row.specs.Layout.{tally, ids, chain, slots, places}
@@ -16,11 +15,9 @@ use Rattle.links.specs.declared.chain.Chain.{Chain}
 use Rattle.links.specs.declared.chain.Chain.the-variants.{Out, In, Pair}
 use Rattle.links.specs.Layout.{pointers, froms, tos}
 use Rattle.links.specs.Meaning.{Tabled}
-use Rattle.links.specs.Frames.{Same, Alike, Only}
+use Rattle.links.specs.Frames.{Alike, Only}
 use Rattle.links.proofs.Sameness.{alike-tally, alike-trans}
-use Rattle.search.specs.Layout.{fore, hind, via}
-use Rattle.search.specs.Marks.{marked}
-use Rattle.search.specs.MarkLaws.{Summed}
+use Rattle.search.specs.Layout.{fore, hind}
 use Rattle.search.specs.Meaning.{slot-board, Ready}
 use Rattle.search.proofs.Frames.{cells-alone}
 

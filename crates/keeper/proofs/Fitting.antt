@@ -1,11 +1,9 @@
 -- A step is taken if the memory and the output fit, else nothing is changed.
 use mathlib.Core.Path.{_≡_, refl, sym, ap₂, subst, _∙_}
-use mathlib.Core.Bool.{Bool, true, false, cond, _&&_}
-use mathlib.Core.List.{List, [], _∷_, _++_}
-use mathlib.Core.Logic.{_⊎_, inl, inr}
-use Prim.Native.Nat.{ℕ, _≤_, _<_}
+use mathlib.Core.Bool.{Bool, true, false}
+use mathlib.Core.List.{List, _++_}
+use Prim.Native.Nat.{ℕ, _≤_}
 use native.Mathlib.Omega.{arith}
-use lib.Dec.{eqb, leb}
 use lib.ListN.{length, drop}
 use Rattle.std.proofs.shelf.Ways.{tells}
 use Rattle.std.proofs.shelf.Tests.{eq-eqb, ne-eqb}
@@ -15,10 +13,10 @@ use Rattle.keeper.specs.declared.event.Act.{Act}
 use Rattle.keeper.specs.declared.event.Act.the-variants.{Refused}
 use Rattle.keeper.specs.declared.event.Reason.the-variants.{Busy}
 use Rattle.row.specs.declared.board.Command.{Command}
-use Rattle.keeper.specs.Answers.{Answer, quiet, ends, pending}
+use Rattle.keeper.specs.Answers.{quiet, ends, pending}
 use Rattle.keeper.specs.Engine.{action-of}
 use Rattle.keeper.proofs.Size.{guarded-small}
-use Rattle.keeper.specs.Own.{said, went-on, answer, steps, step-fits, Taken, Untaken, Step-by, Step-says}
+use Rattle.keeper.specs.Own.{said, went-on, answer, steps, step-fits, Untaken, Step-by, Step-says}
 
 module _ (m : List ℕ) (ev : Event) (out : List ℕ) (r : Act) (m₁ out₁ : List ℕ) where
   pub took : length m ≡ 524288 → 8192 ≤ length out → r ≡ answer m ev .act → m₁ ≡ answer m ev .memory →

@@ -1,26 +1,23 @@
 -- A link is made that the row keeps already, or is refused at once.
 use mathlib.Core.Path.{_≡_, refl, sym, ap, ap₂, subst, _∙_}
-use mathlib.Core.Bool.{Bool, true, false, cond, _&&_, _||_, not}
+use mathlib.Core.Bool.{true, false, _&&_}
 use mathlib.Core.List.{List, [], _∷_, _++_, map}
-use mathlib.Core.Logic.{_⊎_, inl, inr, _≢_}
-use Prim.Native.Nat.{ℕ, _+_, _≤_, _<_}
+use mathlib.Core.Logic.{inl, inr}
+use Prim.Native.Nat.{ℕ, _≤_, _<_}
 use native.Mathlib.Omega.{arith}
-use lib.Dec.{eqb, ltb, leb}
 use lib.ListN.{length}
 use Rattle.std.specs.declared.option.Option.the-variants.{Some, None}
-use Rattle.std.proofs.shelf.Tests.{cases-bool, cases-eq, cases-lt, both-ways, eq-eqb, ne-eqb, lt-ltb, le-ltb, le-leb, lt-leb, and-from}
+use Rattle.std.proofs.shelf.Tests.{cases-bool, cases-eq, cases-lt, both-ways, eq-eqb, ne-eqb, le-ltb, le-leb, lt-leb, and-from}
 use Rattle.row.proofs.Leading.{leads-just, leads-before}
 use Rattle.row.specs.declared.board.Link.{Link}
 use Rattle.row.specs.declared.board.Command.the-variants.{Link as Links}
-use Rattle.row.specs.declared.board.Refusal.{Refusal}
 use Rattle.row.specs.declared.board.Refusal.the-variants.{Missing, Exists, Cycle, Full}
-use Rattle.row.specs.Lists.{any, has, place, filter, distinct}
+use Rattle.row.specs.Lists.{any, has, distinct}
 use Rattle.row.specs.Board.{Board, _⟶_, linked, leads, fine}
-use Rattle.row.specs.Commands.{number, refusal, may-be, row-before, links-after, with-link, backward, goes-round, follows, last-of}
+use Rattle.row.specs.Commands.{refusal, may-be, links-after, with-link, backward, goes-round, follows, last-of}
 use Rattle.row.specs.Columns.{cell}
 use Rattle.row.specs.Layout.{ids, slots, places}
 use Rattle.row.specs.Meaning.{used, row-of, cards, Stands}
-use Rattle.row.specs.Moves.{Outcome, refused}
 use Rattle.row.specs.Renaming.{named}
 use Rattle.row.proofs.Filters.{same-itself}
 use Rattle.row.proofs.Staying.{stays}
@@ -39,11 +36,11 @@ use Rattle.links.specs.Frames.{Only}
 use Rattle.links.proofs.Operating.{counts, inserts, finds, stays-once}
 use Rattle.links.proofs.Bounding.{writes-only}
 use Rattle.search.specs.Meaning.{slot-board, Ready}
-use Rattle.keeper.specs.declared.event.Event.the-variants.{Said, Next}
+use Rattle.keeper.specs.declared.event.Event.the-variants.{Said}
 use Rattle.keeper.specs.declared.event.Reason.the-variants.{Board as ByBoard}
-use Rattle.keeper.specs.declared.event.Act.the-variants.{Shows, Done, Refused}
+use Rattle.keeper.specs.declared.event.Act.the-variants.{Shows, Refused}
 use Rattle.keeper.specs.Promise.{small-command}
-use Rattle.keeper.specs.Answers.{Answer, quiet, ends, refuses, pending, leaves-pending}
+use Rattle.keeper.specs.Answers.{quiet, ends, pending, leaves-pending}
 use Rattle.keeper.specs.Linking.{slots-found, put-in, linked as linking}
 use Rattle.keeper.specs.Own.{said, own}
 use Rattle.keeper.specs.Meaning.{card-board, Means}

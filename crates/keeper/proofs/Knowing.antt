@@ -1,29 +1,26 @@
 -- What is known of a memory that means a board: the board of cards is the board of slots with other names.
-use mathlib.Core.Path.{_≡_, refl, sym, ap, subst, _∙_}
-use mathlib.Core.Bool.{Bool, true, false, _&&_}
-use mathlib.Core.List.{List, [], _∷_, map}
-use Prim.Native.Nat.{ℕ, _≤_, _<_}
+use mathlib.Core.Path.{_≡_, sym, subst, _∙_}
+use mathlib.Core.Bool.{true, _&&_}
+use mathlib.Core.List.{List}
+use Prim.Native.Nat.{ℕ}
 use native.Mathlib.Omega.{arith}
-use lib.Dec.{eqb, ltb}
-use lib.ListN.{length}
 use Rattle.std.proofs.shelf.Tests.{and-parts, and-from}
 use Rattle.row.specs.declared.board.Link.{Link}
-use Rattle.row.specs.Lists.{every, has, place}
-use Rattle.row.specs.Board.{Board, fine}
+use Rattle.row.specs.Lists.{every, has}
+use Rattle.row.specs.Board.{fine}
 use Rattle.row.specs.Columns.{cell}
-use Rattle.row.specs.Layout.{ids, slots, places, count}
-use Rattle.row.specs.Meaning.{used, row-of, cards, Stands}
-use Rattle.row.specs.Renaming.{named, renamed, Naming, Renamed}
-use Rattle.row.specs.Laws.{by-slot, by-card}
+use Rattle.row.specs.Layout.{ids, slots, count}
+use Rattle.row.specs.Meaning.{used, row-of, cards}
+use Rattle.row.specs.Renaming.{Naming, Renamed}
 use Rattle.row.proofs.Filters.{every-more}
-use Rattle.row.proofs.Climbs.{Fine, fine-parts}
+use Rattle.row.proofs.Climbs.{fine-parts}
 use Rattle.row.proofs.Tabulated.{made-has}
-use Rattle.row.proofs.Present.{length-cards, slot-used, has-card, place-card, card-slot}
-use Rattle.row.proofs.Named.{has-slot, place-slot, row-used, cards-named, slots-named}
+use Rattle.row.proofs.Present.{slot-used}
+use Rattle.row.proofs.Named.{cards-named, slots-named}
 use Rattle.row.proofs.Renames.{renames}
 use Rattle.links.specs.Meaning.{edges}
 use Rattle.search.specs.Meaning.{slot-board, Ready}
-use Rattle.keeper.specs.Meaning.{card-board, Means}
+use Rattle.keeper.specs.Meaning.{card-board}
 
 module _ (m : List ℕ) (R : Ready m) where
   pub in-row-used : (s : ℕ) → has (row-of m) s ≡ true → used m s ≡ true

@@ -1,91 +1,61 @@
 -- A link that goes backward and can be kept: the row is settled for it and told, and the memory means the board with the link.
 use mathlib.Core.Path.{_≡_, refl, sym, ap, ap₂, subst, _∙_}
-use mathlib.Core.Bool.{Bool, true, false, cond, _&&_, _||_, not}
+use mathlib.Core.Bool.{true, false, _&&_}
 use mathlib.Core.List.{List, [], _∷_, _++_, map}
-use mathlib.Core.Logic.{_⊎_, inl, inr, _≢_}
-use Prim.Native.Nat.{ℕ, _+_, _≤_, _<_}
+use Prim.Native.Nat.{ℕ, _≤_, _<_}
 use native.Mathlib.Omega.{arith}
-use lib.Dec.{eqb, ltb, leb}
 use lib.ListN.{length}
-use Rattle.std.specs.declared.option.Option.the-variants.{Some, None}
-use Rattle.std.proofs.shelf.Tests.{cases-bool, cases-eq, cases-lt, both-ways, eq-eqb, ne-eqb, lt-ltb, le-ltb, le-leb, lt-leb, and-from}
-use Rattle.row.proofs.Leading.{leads-just, leads-before}
+use Rattle.std.specs.declared.option.Option.the-variants.{None}
+use Rattle.std.proofs.shelf.Tests.{lt-ltb, le-leb, lt-leb}
 use Rattle.row.specs.declared.board.Link.{Link}
 use Rattle.row.specs.declared.board.Command.the-variants.{Link as Links}
-use Rattle.row.specs.declared.board.Refusal.{Refusal}
-use Rattle.row.specs.declared.board.Refusal.the-variants.{Missing, Exists, Cycle, Full}
-use Rattle.row.specs.Lists.{any, has, place, filter, distinct}
+use Rattle.row.specs.declared.board.Refusal.the-variants.{Full}
+use Rattle.row.specs.Lists.{any, has, place}
 use Rattle.row.specs.Board.{Board, _⟶_, linked, leads, fine}
-use Rattle.row.specs.Commands.{number, refusal, may-be, row-before, links-after, with-link, backward, goes-round, follows, last-of}
+use Rattle.row.specs.Commands.{refusal, links-after, with-link, backward}
 use Rattle.row.specs.Columns.{cell}
-use Rattle.row.specs.Layout.{tally, ids, chain, slots, places, count}
-use Rattle.row.specs.Columns.{written}
+use Rattle.row.specs.Layout.{ids, slots, places, count}
 use Rattle.row.specs.Meaning.{used, row-of, cards, Stands}
-use Rattle.row.specs.Moves.{Outcome, refused}
 use Rattle.row.specs.Renaming.{named}
-use Rattle.row.proofs.Filters.{same-itself}
 use Rattle.row.proofs.Staying.{stays}
 use Rattle.row.proofs.Depending.{depends}
 use Rattle.row.proofs.Closes.{used-below}
-use Rattle.row.proofs.Named.{has-slot, place-slot, cards-named, row-used}
+use Rattle.row.proofs.Named.{place-slot, cards-named, row-used}
 use Rattle.row.proofs.Present.{used-place}
 use Rattle.links.specs.Entries.{joins}
-use Rattle.links.specs.Entries.{found as entry-found}
 use Rattle.links.specs.Building.{inserted}
-use Rattle.std.specs.Options.{isSome}
-use Rattle.std.specs.declared.option.Option.{Option}
 use Rattle.links.specs.Meaning.{edges, once, Tabled}
 use Rattle.links.specs.Frames.{Only}
-use Rattle.links.proofs.Operating.{counts, inserts, finds, stays-once}
+use Rattle.links.proofs.Operating.{counts, inserts, stays-once}
 use Rattle.links.proofs.Bounding.{writes-only}
 use Rattle.search.specs.Meaning.{slot-board, Ready}
-use Rattle.keeper.specs.declared.event.Event.the-variants.{Said, Next}
-use Rattle.keeper.specs.declared.event.Reason.the-variants.{Board as ByBoard}
-use Rattle.keeper.specs.declared.event.Act.the-variants.{Shows, Done, Refused}
 use Rattle.keeper.specs.Promise.{small-command}
-use Rattle.keeper.specs.Answers.{Answer, quiet, ends, refuses, pending, leaves-pending}
-use Rattle.keeper.specs.Linking.{slots-found, put-in, linked as linking}
+use Rattle.keeper.specs.Answers.{pending, leaves-pending}
 use Rattle.keeper.specs.Own.{said, own}
 use Rattle.keeper.specs.Meaning.{card-board, Means}
-use Rattle.keeper.proofs.Unmoved.{forward-keeps}
 use Rattle.keeper.proofs.Simulation.{Step-kept}
-use Rattle.keeper.proofs.Cases.{backward-kept, backward-kept-two}
-use Rattle.keeper.proofs.Knowing.{names, row-is, fine-cards}
-use Rattle.keeper.proofs.Carrying.{Noted, noted, links-same, links-unmarked, ready-again}
-use Rattle.keeper.proofs.Saying.{step-said, step-next, went-round, run-done, refuses-kept, missing-is-not, exists-is-not, full-is-not}
-use Rattle.keeper.specs.Engine.{tells, run-of, ran}
-use Rattle.keeper.proofs.Unroll.{steps-to, tells-done, tells-tells-done}
+use Rattle.keeper.proofs.Knowing.{names}
+use Rattle.keeper.proofs.Carrying.{Noted, links-same, links-unmarked}
+use Rattle.keeper.proofs.Saying.{refuses-kept, full-is-not}
 use Rattle.keeper.proofs.Forward.{both, linked-here}
-use Rattle.keeper.proofs.Noting.{settles, is-pending}
+use Rattle.keeper.proofs.Noting.{settles}
 use Rattle.keeper.proofs.CardsGo.{all-named}
-use Rattle.keeper.proofs.TwoCards.{Seated, has-row, seated, slots-there, first-absent, second-absent, linked-is, leads-is, backward-is, backward-places}
-use lib.ListN.{take, drop, replicate, length-replicate}
-use Rattle.std.proofs.shelf.Lists.{take-take}
+use Rattle.keeper.proofs.TwoCards.{Seated, leads-is, backward-is, backward-places}
 use Rattle.std.proofs.shelf.Counted.{length-map-counting}
 use lib.ListN.{length-map}
-use Rattle.row.proofs.Beginning.{middle-is}
 use Rattle.row.proofs.Only.{must-may}
 use Rattle.row.proofs.Filters.{every-more}
-use Rattle.row.proofs.Cells.{cell-same, cell-other}
 use Rattle.row.specs.Commands.{firm, must-be}
 use Rattle.row.specs.Board.{keeps}
-use Prim.Native.Nat.{suc, _-_, min}
-use Rattle.row.specs.Laws.{Same-row}
 use Rattle.row.specs.Lists.{every}
-use Rattle.links.specs.Frames.{Alike}
-use Rattle.links.specs.Layout.{live, pointers, froms, tos}
-use Rattle.links.proofs.Sameness.{edges-alike, tabled-alike}
-use Rattle.search.specs.Layout.{fore, hind, via}
-use Rattle.search.specs.Hunt.{Met, meeting}
+use Rattle.links.specs.Layout.{live}
+use Rattle.search.specs.Layout.{fore, hind}
 use Rattle.search.specs.Settle.{forgotten, settled}
-use Rattle.search.specs.MarkLaws.{Summed}
-use Rattle.search.specs.Meaning.{Kept, Parted, Trailed}
-use Rattle.search.specs.SettleLaws.{Unmarked, Settled}
+use Rattle.search.specs.Meaning.{Parted}
+use Rattle.search.specs.SettleLaws.{Settled}
 use Rattle.search.proofs.RowSettled.{settles as row-settles}
 use Rattle.search.proofs.Frames.{cells-alone}
-use Rattle.keeper.specs.Telling.{middle, left-to-tell, telling, told-part}
 use Rattle.keeper.specs.Reordering.{moved}
-use Rattle.keeper.proofs.Parts.{part}
 use Rattle.keeper.proofs.Backward.{forgotten-ready, forgotten-edges, forgotten-tally, forgotten-board}
 
 map-same : (f g : ℕ → ℕ) → ((k : ℕ) → f k ≡ g k) → (xs : List ℕ) → map f xs ≡ map g xs

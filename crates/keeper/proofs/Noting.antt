@@ -1,61 +1,25 @@
 -- What is pending is no part of what the memory means.
-use mathlib.Core.Path.{_≡_, refl, sym, ap, ap₂, subst, _∙_}
-use mathlib.Core.Bool.{Bool, true, false, cond, _&&_, _||_, not}
-use mathlib.Core.List.{List, [], _∷_, _++_, map}
-use mathlib.Core.Logic.{_⊎_, inl, inr}
-use Prim.Native.Nat.{ℕ, _≤_, _<_}
+use mathlib.Core.Path.{_≡_, sym, ap, ap₂, subst, _∙_}
+use mathlib.Core.Bool.{true}
+use mathlib.Core.List.{List, map}
+use Prim.Native.Nat.{ℕ}
 use native.Mathlib.Omega.{arith}
-use lib.Dec.{eqb, leb}
-use lib.ListN.{length}
-use Rattle.std.specs.declared.option.Option.the-variants.{Some, None}
-use Rattle.std.specs.declared.result.Result.the-variants.{Ok, Err}
-use Rattle.std.proofs.shelf.Tests.{cases-bool, cases-lt, le-leb, lt-leb, and-parts, both-ways}
 use Rattle.row.specs.declared.board.Link.{Link}
-use Rattle.row.specs.declared.board.Command.the-variants.{Places}
-use Rattle.row.specs.declared.board.Refusal.the-variants.{Missing}
-use Rattle.row.specs.Lists.{every, has, place, filter}
-use Rattle.row.specs.Board.{Board, fine}
-use Rattle.row.specs.Commands.{refusal, may-be, row-before, links-after, told-rows}
+use Rattle.row.specs.Board.{fine}
 use Rattle.row.specs.Columns.{cell}
-use Rattle.row.specs.Layout.{tally, ids, slots, count}
-use Rattle.std.proofs.shelf.Counted.{length-map-counting}
-use Rattle.row.specs.Columns.{written}
-use Rattle.row.specs.Moves.{place-found}
-use Rattle.row.specs.Meaning.{used, row-of, cards, Stands}
-use Rattle.row.specs.Renaming.{named, renamed}
-use Rattle.row.specs.Laws.{Gone, Only-row, Same-row}
-use Rattle.row.proofs.Filters.{same-itself}
-use Rattle.row.proofs.Staying.{stays}
-use Rattle.row.proofs.Present.{length-cards}
+use Rattle.row.specs.Layout.{tally, ids}
+use Rattle.row.specs.Meaning.{row-of}
+use Rattle.row.specs.Renaming.{named}
 use Rattle.row.proofs.Named.{cards-named}
-use Rattle.row.proofs.Going.{goes-filters}
 use Rattle.row.proofs.Depending.{depends}
-use Rattle.row.proofs.Closes.{used-below}
-use Rattle.row.proofs.Named.{has-slot}
-use Rattle.row.proofs.Elsewhere.{else-stays}
-use Rattle.links.specs.Meaning.{edges, once, Tabled}
-use Rattle.links.specs.Removing.{removed-all}
-use Rattle.links.specs.Frames.{Only}
+use Rattle.links.specs.Meaning.{edges, once}
 use Rattle.links.proofs.Sameness.{edges-alike, tabled-alike}
-use Rattle.links.proofs.Operating.{removes-all, stays-once}
-use Rattle.links.proofs.Bounding.{writes-only}
-use Rattle.search.specs.Meaning.{slot-board, Ready}
-use Rattle.keeper.specs.declared.event.Act.the-variants.{Done}
-use Rattle.keeper.specs.Promise.{small-command}
+use Rattle.search.specs.Meaning.{Ready}
 use Rattle.row.proofs.Cells.{cell-same}
-use Rattle.row.proofs.Present.{finds}
-use Rattle.keeper.specs.declared.event.Event.the-variants.{Said, Next}
-use Rattle.keeper.specs.declared.event.Act.the-variants.{Shows}
-use Rattle.keeper.specs.Answers.{quiet, ends, refuses, pending, leaves-pending}
-use Rattle.keeper.specs.Own.{shown-places, said, own}
+use Rattle.keeper.specs.Answers.{pending, leaves-pending}
 use Rattle.keeper.specs.Meaning.{card-board, Means}
-use Rattle.keeper.proofs.Unmoved.{goes-keeps}
-use Rattle.keeper.proofs.Simulation.{Step-kept}
-use Rattle.keeper.proofs.Cases.{places-kept}
-use Rattle.keeper.proofs.Knowing.{names, row-is, fine-cards}
+use Rattle.keeper.proofs.Knowing.{row-is}
 use Rattle.keeper.proofs.Carrying.{Noted, noted, ready-again}
-use Rattle.keeper.proofs.Saying.{step-said, step-next, went-done, refuses-kept, missing-is-not}
-use Rattle.keeper.proofs.Unroll.{shows-done}
 use Rattle.keeper.proofs.CardsGo.{all-named}
 
 module _ (m m′ : List ℕ) (R : Ready m) (N : Noted m m′) where

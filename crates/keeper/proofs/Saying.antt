@@ -1,12 +1,11 @@
 -- A step of the engine, by what is said.
-use mathlib.Core.Path.{_≡_, refl, sym, ap, _∙_}
-use mathlib.Core.Bool.{Bool, true, false}
-use mathlib.Core.List.{List, [], _∷_}
+use mathlib.Core.Path.{_≡_, ap, _∙_}
+use mathlib.Core.Bool.{true}
+use mathlib.Core.List.{List, []}
 use mathlib.Core.Logic.{_≢_}
 use Prim.Native.Nat.{ℕ, _≤_, _<_}
 use native.Mathlib.Omega.{arith}
-use lib.Dec.{eqb}
-use Rattle.std.specs.declared.option.Option.the-variants.{Some, None}
+use Rattle.std.specs.declared.option.Option.the-variants.{Some}
 use Rattle.std.proofs.shelf.Tests.{eq-eqb, ne-eqb}
 use Rattle.row.specs.declared.board.Command.{Command}
 use Rattle.row.specs.declared.board.Refusal.{Refusal}
@@ -16,10 +15,10 @@ use Rattle.row.specs.Commands.{number, refusal}
 use Rattle.keeper.specs.declared.event.Event.the-variants.{Said, Next}
 use Rattle.keeper.specs.declared.event.Reason.the-variants.{Board as ByBoard}
 use Rattle.keeper.specs.declared.event.Act.the-variants.{Done, Refused}
-use Rattle.keeper.specs.Engine.{Step, action-of, done, refused, run-of, ran}
+use Rattle.keeper.specs.Engine.{Step, action-of, run-of, ran}
 use Rattle.keeper.specs.Promise.{small-command}
 use Rattle.keeper.specs.Answers.{Answer, quiet, ends, refuses, pending, leaves-pending}
-use Rattle.keeper.specs.Own.{said, went-on, answer, steps, own}
+use Rattle.keeper.specs.Own.{said, went-on, steps, own}
 use Rattle.keeper.proofs.Fitting.{answer-said, answer-next}
 use Rattle.keeper.proofs.Unroll.{steps-to, done-at-once, refused-at-once}
 use Rattle.keeper.proofs.Simulation.{Step-kept}

@@ -1,15 +1,14 @@
 -- What is told of the row, where the memory and the output are long enough.
-use mathlib.Core.Path.{_≡_, refl, sym, ap, _∙_}
-use mathlib.Core.Bool.{Bool, true, false, _&&_}
-use mathlib.Core.List.{List, _++_, map}
-use Prim.Native.Nat.{ℕ, _+_, _-_, _≤_, _<_, min}
+use mathlib.Core.Path.{_≡_, sym, ap, _∙_}
+use mathlib.Core.Bool.{true}
+use mathlib.Core.List.{List, _++_}
+use Prim.Native.Nat.{ℕ, _+_, _≤_}
 use native.Mathlib.Omega.{arith}
-use lib.Dec.{leb}
 use lib.ListN.{length, take, drop, length-map}
 use Rattle.std.proofs.shelf.Ways.{tells}
 use Rattle.std.proofs.shelf.Lists.{length-take-le, length-drop}
 use Rattle.row.specs.Columns.{cell}
-use Rattle.row.specs.Layout.{ids, slots}
+use Rattle.row.specs.Layout.{ids}
 use Rattle.row.specs.Telling.{tellable, told, told-count}
 use Rattle.keeper.specs.Telling.{middle}
 

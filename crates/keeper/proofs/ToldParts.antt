@@ -1,88 +1,49 @@
 -- A link that goes backward and can be kept: what is told makes the row new, in one part or in two.
-use mathlib.Core.Path.{_≡_, refl, sym, ap, ap₂, subst, _∙_}
-use mathlib.Core.Bool.{Bool, true, false, cond, _&&_, _||_, not}
-use mathlib.Core.List.{List, [], _∷_, _++_, map}
-use mathlib.Core.Logic.{_⊎_, inl, inr, _≢_}
+use mathlib.Core.Path.{_≡_, refl, sym, ap, ap₂, _∙_}
+use mathlib.Core.Bool.{true, false}
+use mathlib.Core.List.{List, [], _∷_}
+use mathlib.Core.Logic.{inl, inr}
 use Prim.Native.Nat.{ℕ, _+_, _≤_, _<_}
 use native.Mathlib.Omega.{arith}
-use lib.Dec.{eqb, ltb, leb}
 use lib.ListN.{length}
 use Rattle.std.specs.declared.option.Option.the-variants.{Some, None}
-use Rattle.std.proofs.shelf.Tests.{cases-bool, cases-eq, cases-lt, both-ways, eq-eqb, ne-eqb, lt-ltb, le-ltb, le-leb, lt-leb, and-from}
-use Rattle.row.proofs.Leading.{leads-just, leads-before}
+use Rattle.std.proofs.shelf.Tests.{cases-lt, eq-eqb, ne-eqb, lt-ltb, le-ltb, lt-leb}
 use Rattle.row.specs.declared.board.Link.{Link}
 use Rattle.row.specs.declared.board.Command.the-variants.{Link as Links}
-use Rattle.row.specs.declared.board.Refusal.{Refusal}
-use Rattle.row.specs.declared.board.Refusal.the-variants.{Missing, Exists, Cycle, Full}
-use Rattle.row.specs.Lists.{any, has, place, filter, distinct}
-use Rattle.row.specs.Board.{Board, _⟶_, linked, leads, fine}
-use Rattle.row.specs.Commands.{number, refusal, may-be, row-before, links-after, with-link, backward, goes-round, follows, last-of}
+use Rattle.row.specs.Lists.{any, has, place}
+use Rattle.row.specs.Board.{Board, _⟶_}
 use Rattle.row.specs.Columns.{cell}
-use Rattle.row.specs.Layout.{tally, ids, chain, slots, places, count}
+use Rattle.row.specs.Layout.{tally, places, count}
 use Rattle.row.specs.Columns.{written}
-use Rattle.row.specs.Meaning.{used, row-of, cards, Stands}
-use Rattle.row.specs.Moves.{Outcome, refused}
-use Rattle.row.specs.Renaming.{named}
-use Rattle.row.proofs.Filters.{same-itself}
-use Rattle.row.proofs.Staying.{stays}
+use Rattle.row.specs.Meaning.{cards}
 use Rattle.row.proofs.Depending.{depends}
-use Rattle.row.proofs.Closes.{used-below}
-use Rattle.row.proofs.Named.{has-slot, place-slot, cards-named, row-used}
-use Rattle.row.proofs.Present.{used-place}
 use Rattle.links.specs.Entries.{joins}
-use Rattle.links.specs.Entries.{found as entry-found}
-use Rattle.links.specs.Building.{inserted}
-use Rattle.std.specs.Options.{isSome}
 use Rattle.std.specs.declared.option.Option.{Option}
-use Rattle.links.specs.Meaning.{edges, once, Tabled}
-use Rattle.links.specs.Frames.{Only}
-use Rattle.links.proofs.Operating.{counts, inserts, finds, stays-once}
-use Rattle.links.proofs.Bounding.{writes-only}
-use Rattle.search.specs.Meaning.{slot-board, Ready}
+use Rattle.links.specs.Meaning.{edges, once}
+use Rattle.search.specs.Meaning.{Ready}
 use Rattle.keeper.specs.declared.event.Event.the-variants.{Said, Next}
-use Rattle.keeper.specs.declared.event.Reason.the-variants.{Board as ByBoard}
-use Rattle.keeper.specs.declared.event.Act.the-variants.{Shows, Done, Refused}
 use Rattle.keeper.specs.Promise.{small-command}
-use Rattle.keeper.specs.Answers.{Answer, quiet, ends, refuses, pending, leaves-pending}
-use Rattle.keeper.specs.Linking.{slots-found, put-in, linked as linking}
+use Rattle.keeper.specs.Answers.{pending, leaves-pending}
+use Rattle.keeper.specs.Linking.{linked as linking}
 use Rattle.keeper.specs.Own.{said, went-on, own}
 use Rattle.keeper.specs.Meaning.{card-board, Means}
-use Rattle.keeper.proofs.Unmoved.{forward-keeps}
 use Rattle.keeper.proofs.Simulation.{Step-kept}
 use Rattle.keeper.proofs.Cases.{backward-kept, backward-kept-two}
-use Rattle.keeper.proofs.Knowing.{names, row-is, fine-cards}
-use Rattle.keeper.proofs.Carrying.{Noted, noted, noted-on, links-same, links-unmarked, ready-again}
-use Rattle.keeper.proofs.Saying.{step-said, step-next, went-done, run-done, refuses-kept, missing-is-not, exists-is-not, full-is-not}
+use Rattle.keeper.proofs.Carrying.{Noted, noted, noted-on}
+use Rattle.keeper.proofs.Saying.{step-said, step-next, went-done}
 use Rattle.keeper.specs.Engine.{tells, done, run-of, ran}
 use Rattle.keeper.proofs.Unroll.{steps-to, told, tells-done, tells-tells-done}
-use Rattle.keeper.proofs.Forward.{both, linked-here}
-use Rattle.keeper.proofs.Noting.{noted-ready, settles, is-pending}
-use Rattle.keeper.proofs.CardsGo.{all-named}
-use Rattle.keeper.proofs.TwoCards.{Seated, has-row, seated, slots-there, first-absent, second-absent, linked-is, leads-is, backward-is, backward-places}
+use Rattle.keeper.proofs.Noting.{noted-ready, is-pending}
+use Rattle.keeper.proofs.TwoCards.{Seated, slots-there}
 use lib.ListN.{take, drop, length-take}
 use Rattle.std.proofs.shelf.Lists.{take-take}
-use Rattle.std.proofs.shelf.Counted.{length-map-counting}
-use lib.ListN.{length-map}
 use Rattle.row.proofs.Beginning.{middle-is}
-use Rattle.row.proofs.Only.{must-may}
-use Rattle.row.proofs.Filters.{every-more}
 use Rattle.row.proofs.Cells.{cell-same, cell-other, length-written}
 use Rattle.row.specs.Commands.{Told}
-use Rattle.row.specs.Board.{keeps}
 use Prim.Native.Nat.{suc, _-_, min}
-use Rattle.row.specs.Laws.{Same-row}
-use Rattle.row.specs.Lists.{every}
-use Rattle.links.specs.Frames.{Alike}
-use Rattle.links.specs.Layout.{live, pointers, froms, tos}
-use Rattle.links.proofs.Sameness.{edges-alike, tabled-alike}
-use Rattle.search.specs.Layout.{fore, hind, via}
-use Rattle.search.specs.Hunt.{Met, meeting}
-use Rattle.search.specs.Settle.{forgotten, settled}
-use Rattle.search.specs.MarkLaws.{Summed}
-use Rattle.search.specs.Meaning.{Kept, Parted, Trailed}
-use Rattle.search.specs.SettleLaws.{Unmarked, Settled}
-use Rattle.search.proofs.RowSettled.{settles as row-settles}
-use Rattle.search.proofs.Frames.{cells-alone}
+use Rattle.links.specs.Layout.{live}
+use Rattle.search.specs.Hunt.{meeting}
+use Rattle.search.specs.Meaning.{Parted}
 use Rattle.keeper.specs.Telling.{middle, left-to-tell, telling, told-part}
 use Rattle.keeper.specs.Reordering.{moved}
 use Rattle.keeper.proofs.Parts.{part}
@@ -90,7 +51,7 @@ use Rattle.keeper.proofs.Backward.{round}
 use Rattle.keeper.proofs.Moving.{new, new-cards, is-firm, keeps-all, as-long, allowed, goes-back, Q, same-count, bounds, place-low, place-high, at-end, full, m₃}
 use Rattle.search.specs.HuntLaws.{Found}
 use Rattle.search.proofs.Starting.{meets}
-use Rattle.keeper.specs.Reordering.{reordered, shown-round}
+use Rattle.keeper.specs.Reordering.{reordered}
 use Rattle.keeper.proofs.Forward.{not-found, links-by}
 use Rattle.std.specs.declared.option.Option.{Option}
 

@@ -1,26 +1,23 @@
 -- Two cards that are spoken of, and their slots.
-use mathlib.Core.Path.{_≡_, refl, sym, ap, ap₂, subst, _∙_}
-use mathlib.Core.Bool.{Bool, true, false, cond, _&&_, _||_, not}
-use mathlib.Core.List.{List, [], _∷_, _++_, map}
-use mathlib.Core.Logic.{_⊎_, inl, inr, _≢_}
-use Prim.Native.Nat.{ℕ, _+_, _≤_, _<_}
-use native.Mathlib.Omega.{arith}
-use lib.Dec.{eqb, ltb, leb}
-use lib.ListN.{length}
+use mathlib.Core.Path.{_≡_, refl, sym, ap, _∙_}
+use mathlib.Core.Bool.{true, false}
+use mathlib.Core.List.{List}
+use mathlib.Core.Logic.{inl, inr}
+use Prim.Native.Nat.{ℕ}
+use lib.Dec.{ltb}
 use Rattle.std.specs.declared.option.Option.the-variants.{Some, None}
-use Rattle.std.proofs.shelf.Tests.{cases-bool, both-ways, and-parts}
+use Rattle.std.proofs.shelf.Tests.{cases-bool, both-ways}
 use Rattle.row.specs.declared.board.Link.{Link}
-use Rattle.row.specs.Lists.{any, has, place}
-use Rattle.row.specs.Board.{Board, _⟶_, linked, leads, fine}
+use Rattle.row.specs.Lists.{has}
+use Rattle.row.specs.Board.{Board, _⟶_, linked, leads}
 use Rattle.row.specs.Commands.{backward}
 use Rattle.row.specs.Columns.{cell}
 use Rattle.row.specs.Layout.{ids, places}
 use Rattle.row.specs.Lookup.{found}
-use Rattle.row.specs.Meaning.{used, row-of, cards}
-use Rattle.row.proofs.Climbs.{Fine, fine-parts, link-ends}
-use Rattle.row.proofs.Present.{finds, place-card}
+use Rattle.row.specs.Meaning.{used, cards}
+use Rattle.row.proofs.Climbs.{fine-parts, link-ends}
+use Rattle.row.proofs.Present.{finds}
 use Rattle.row.proofs.Named.{place-slot}
-use Rattle.links.specs.Meaning.{edges}
 use Rattle.search.specs.Meaning.{slot-board, Ready}
 use Rattle.keeper.specs.Meaning.{card-board}
 use Rattle.keeper.specs.Linking.{slots-found}

@@ -1,14 +1,13 @@
 -- A link is taken back: the memory means the board without it.
 use mathlib.Core.Path.{_≡_, refl, sym, ap, ap₂, subst, _∙_}
-use mathlib.Core.Bool.{Bool, true, false, cond, _&&_, _||_, not}
-use mathlib.Core.List.{List, [], _∷_, _++_, map}
-use mathlib.Core.Logic.{_⊎_, inl, inr, _≢_}
-use Prim.Native.Nat.{ℕ, _+_, _≤_, _<_}
+use mathlib.Core.Bool.{true, false, _&&_, not}
+use mathlib.Core.List.{List, map}
+use mathlib.Core.Logic.{inl, inr}
+use Prim.Native.Nat.{ℕ}
 use native.Mathlib.Omega.{arith}
-use lib.Dec.{eqb, ltb, leb}
-use lib.ListN.{length}
+use lib.Dec.{eqb}
 use Rattle.std.specs.Results.{isOk}
-use Rattle.std.specs.declared.option.Option.the-variants.{Some, None}
+use Rattle.std.specs.declared.option.Option.the-variants.{None}
 use Rattle.std.specs.declared.result.Result.{Result}
 use Rattle.std.specs.declared.result.Result.the-variants.{Ok, Err}
 use Rattle.std.proofs.shelf.Tests.{cases-bool, both-ways}
@@ -22,7 +21,7 @@ use Rattle.row.specs.Commands.{refusal, may-be, row-before, links-after}
 use Rattle.row.specs.Columns.{cell}
 use Rattle.row.specs.Layout.{ids}
 use Rattle.row.specs.Meaning.{used, row-of, cards, Stands}
-use Rattle.row.specs.Moves.{Outcome, refused}
+use Rattle.row.specs.Moves.{refused}
 use Rattle.row.specs.Renaming.{named}
 use Rattle.row.proofs.Filters.{same-itself}
 use Rattle.row.proofs.Staying.{stays}
@@ -36,9 +35,8 @@ use Rattle.links.specs.Frames.{Only}
 use Rattle.links.proofs.Operating.{removes, stays-once}
 use Rattle.links.proofs.Bounding.{writes-only}
 use Rattle.search.specs.Meaning.{slot-board, Ready}
-use Rattle.keeper.specs.declared.event.Act.the-variants.{Done}
 use Rattle.keeper.specs.Promise.{small-command}
-use Rattle.keeper.specs.Answers.{quiet, ends, refuses, pending}
+use Rattle.keeper.specs.Answers.{pending}
 use Rattle.keeper.specs.Linking.{slots-found, unlinked}
 use Rattle.keeper.specs.Own.{said, own}
 use Rattle.keeper.specs.Meaning.{card-board, Means}

@@ -1,7 +1,7 @@
 -- THE THEOREM: the keeper's engine meets the promise, and its firmer sister within three steps.
-use mathlib.Core.Path.{_≡_, refl, sym, ap, ap₂, subst, _∙_}
-use mathlib.Core.Bool.{Bool, true, false}
-use mathlib.Core.List.{List, [], _∷_, map}
+use mathlib.Core.Path.{_≡_, refl, sym, ap, ap₂, subst}
+use mathlib.Core.Bool.{true, false}
+use mathlib.Core.List.{List, [], map}
 use Prim.Native.Nat.{ℕ, _+_, _≤_}
 use native.Mathlib.Omega.{arith}
 use lib.ListN.{length, replicate, length-replicate}
@@ -16,13 +16,11 @@ use Rattle.row.specs.Meaning.{row-of, Stands}
 use Rattle.row.specs.Renaming.{renamed}
 use Rattle.std.specs.Iters.{counting}
 use Rattle.row.proofs.Beginning.{begins, cell-zeros}
-use Rattle.row.proofs.Named.{cards-named}
 use Rattle.links.specs.Meaning.{edges, once, Tabled}
 use Rattle.links.proofs.Emptying.{tabled-zeros}
 use Rattle.search.specs.Layout.{fore, hind, via}
 use Rattle.search.specs.Marks.{marked}
 use Rattle.search.specs.MarkLaws.{Summed}
-use Rattle.search.specs.Meaning.{slot-board, Ready}
 use Rattle.keeper.specs.Answers.{pending}
 use Rattle.search.proofs.Zeros.{fresh-memory}
 use Rattle.keeper.specs.Promise.{empty, Whole, small-command}

@@ -1,21 +1,20 @@
 -- A card comes, in its memory: the columns after it.
 use mathlib.Core.Path.{_≡_, refl, sym, ap, _∙_}
-use mathlib.Core.Bool.{Bool, true, false, cond}
+use mathlib.Core.Bool.{true}
 use mathlib.Core.List.{List}
-use mathlib.Core.Logic.{_⊎_, inl, inr}
-use Prim.Native.Nat.{ℕ, zero, suc, _+_, _-_, _≤_, _<_, min}
+use mathlib.Core.Logic.{inl, inr}
+use Prim.Native.Nat.{ℕ, suc, _+_, _≤_, _<_, min}
 use native.Mathlib.Omega.{arith}
 use native.Mathlib.Numerals.{add-one}
-use lib.Dec.{eqb, ltb}
 use lib.ListN.{length}
 use Rattle.std.proofs.shelf.Ways.{tells}
-use Rattle.std.proofs.shelf.Tests.{cases-eq, cases-lt, lt-ltb, le-ltb}
+use Rattle.std.proofs.shelf.Tests.{cases-lt, lt-ltb, le-ltb}
 use Rattle.row.specs.declared.column.Column.{Column}
 use Rattle.row.specs.Columns.{cell, written, apart}
 use Rattle.row.specs.Layout.{tally, ids, chain, slots, places, count, fresh}
 use Rattle.row.specs.Lookup.{bucket, entered}
 use Rattle.row.specs.Moves.{slot-for, taken, arrived}
-use Rattle.row.specs.Meaning.{Standing, Stands}
+use Rattle.row.specs.Meaning.{Stands}
 use Rattle.row.proofs.Cells.{length-written, cell-same, cell-other, cell-apart}
 use Rattle.row.proofs.Arriving.{bucket-below, Took, Arrives}
 

@@ -1,16 +1,16 @@
 -- A card comes: what stands, stands with one card more. Over any columns.
-use mathlib.Core.Path.{_≡_, refl, sym, ap, subst, _∙_}
-use mathlib.Core.Bool.{Bool, true, false, cond, _&&_, _||_, not}
-use mathlib.Core.List.{List, [], _∷_}
-use mathlib.Core.Logic.{_⊎_, inl, inr}
-use Prim.Native.Nat.{ℕ, zero, suc, _+_, _-_, _≤_, _<_}
+use mathlib.Core.Path.{_≡_, sym, ap, _∙_}
+use mathlib.Core.Bool.{true, false, cond, _||_, not}
+use mathlib.Core.List.{_∷_}
+use mathlib.Core.Logic.{inl, inr}
+use Prim.Native.Nat.{ℕ, suc, _+_, _≤_, _<_}
 use native.Mathlib.Omega.{arith}
-use lib.Dec.{eqb, ltb}
+use lib.Dec.{eqb}
 use Rattle.std.proofs.shelf.Ways.{tells}
-use Rattle.std.proofs.shelf.Tests.{cases-eq, cases-lt, eq-eqb, ne-eqb, both-ways, and-parts, and-from, lt-ltb, le-ltb, ltb-true}
+use Rattle.std.proofs.shelf.Tests.{cases-eq, cases-lt, eq-eqb, ne-eqb, both-ways, and-from, lt-ltb, le-ltb}
 use Rattle.row.specs.Lists.{any, has, distinct}
 use Rattle.row.specs.Lookup.{bucket}
-use Rattle.row.specs.Meaning.{in-use, Spells, Chains, Standing}
+use Rattle.row.specs.Meaning.{in-use, Chains, Standing}
 use Rattle.row.proofs.Chaining.{spells-move, spells-entered, has-at}
 
 pub bucket-below : (k : ℕ) → bucket k < 8192

@@ -1,23 +1,23 @@
 -- Zeros stand, with no cards; what is told; what stays.
-use mathlib.Core.Path.{_≡_, refl, sym, ap, subst, _∙_}
-use mathlib.Core.Bool.{Bool, true, false, cond, _&&_}
+use mathlib.Core.Path.{_≡_, refl, sym, ap, _∙_}
+use mathlib.Core.Bool.{Bool, true, false, _&&_}
 use mathlib.Core.List.{List, [], _∷_, _++_, map}
-use mathlib.Core.Logic.{_⊎_, inl, inr}
-use Prim.Native.Nat.{ℕ, zero, suc, _+_, _-_, _≤_, _<_}
+use mathlib.Core.Logic.{inl, inr}
+use Prim.Native.Nat.{ℕ, _+_, _≤_, _<_}
 use native.Mathlib.Omega.{arith}
-use lib.Dec.{eqb, ltb, leb}
+use lib.Dec.{leb}
 use lib.ListN.{length, getD, replicate, take, drop, length-replicate}
 use Rattle.std.proofs.shelf.Ways.{tells}
 use Rattle.std.proofs.shelf.Tests.{cases-lt}
-use Rattle.std.proofs.shelf.Lists.{getD-replicate, getD-past, getD-take, getD-drop, ext-getD, length-take-le, length-drop, map-append}
+use Rattle.std.proofs.shelf.Lists.{getD-replicate, getD-past, getD-take, getD-drop, ext-getD, length-take-le, length-drop}
 use Rattle.std.proofs.shelf.Counted.{length-map-counting, getD-map-counting}
 use Rattle.std.specs.Iters.{counting}
 use Rattle.row.specs.declared.column.Column.{Column}
-use Rattle.row.specs.Lists.{any, has, distinct}
-use Rattle.row.specs.Columns.{cell, apart}
+use Rattle.row.specs.Lists.{any, distinct}
+use Rattle.row.specs.Columns.{cell}
 use Rattle.row.specs.Layout.{tally, ids, chain, slots, places, count, fresh}
 use Rattle.row.specs.Telling.{told, told-count}
-use Rattle.row.specs.Meaning.{in-use, row-of, cards, Chains, Standing, Stands}
+use Rattle.row.specs.Meaning.{in-use, cards, Stands}
 use Rattle.row.specs.Laws.{Begins, Tells}
 use Rattle.row.proofs.Tabulated.{take-made}
 use Rattle.row.proofs.Present.{length-cards}

@@ -1,14 +1,14 @@
 -- Hash chains, over any pointers: what seeking finds, and what entering and withdrawing leave.
 use mathlib.Core.Path.{_≡_, refl, sym, ap, subst, _∙_}
-use mathlib.Core.Bool.{Bool, true, false, cond, _&&_, _||_, not}
-use mathlib.Core.List.{List, [], _∷_, _++_}
-use mathlib.Core.Logic.{_⊎_, inl, inr}
-use Prim.Native.Nat.{ℕ, zero, suc, _+_, _-_, _≤_, _<_}
+use mathlib.Core.Bool.{true, false, cond, not}
+use mathlib.Core.List.{List, [], _∷_}
+use mathlib.Core.Logic.{inl, inr}
+use Prim.Native.Nat.{ℕ, zero, suc, _+_, _≤_, _<_}
 use native.Mathlib.Omega.{arith}
-use lib.Dec.{eqb, ltb}
+use lib.Dec.{eqb}
 use lib.ListN.{length}
 use Rattle.std.proofs.shelf.Ways.{tells}
-use Rattle.std.proofs.shelf.Tests.{cases-bool, cases-eq, eq-eqb, ne-eqb, eqb-true, and-parts, or-right, both-ways}
+use Rattle.std.proofs.shelf.Tests.{cases-eq, eq-eqb, ne-eqb, and-parts, or-right, both-ways}
 use Rattle.row.specs.Lists.{any, has, distinct, filter}
 use Rattle.row.specs.Meaning.{Spells}
 use Rattle.row.proofs.Filters.{has-filter, distinct-filter}

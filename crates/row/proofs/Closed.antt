@@ -1,24 +1,18 @@
 -- A card goes, in its memory: the columns after it.
 use mathlib.Core.Path.{_≡_, refl, sym, ap, _∙_}
-use mathlib.Core.Bool.{Bool, true, false, cond, _&&_}
+use mathlib.Core.Bool.{true}
 use mathlib.Core.List.{List}
 use mathlib.Core.Logic.{_⊎_, inl, inr}
-use Prim.Native.Nat.{ℕ, zero, suc, _+_, _-_, _≤_, _<_, min}
+use Prim.Native.Nat.{ℕ, zero, suc, _+_, _≤_, _<_}
 use native.Mathlib.Omega.{arith}
 use native.Mathlib.Numerals.{add-one}
-use lib.Dec.{eqb, ltb, leb}
 use lib.ListN.{length}
-use Rattle.std.proofs.shelf.Ways.{tells}
-use Rattle.std.proofs.shelf.Tests.{cases-eq, cases-lt, eq-eqb, and-parts, ltb-true}
+use Rattle.std.proofs.shelf.Tests.{cases-eq}
 use Rattle.row.specs.declared.column.Column.{Column}
 use Rattle.row.specs.Columns.{cell, written, apart}
-use Rattle.row.specs.Layout.{tally, ids, chain, slots, places, count, fresh}
-use Rattle.row.specs.Lookup.{bucket, entry, withdrawn}
-use Rattle.row.specs.Moves.{shifted, last, closed}
-use Rattle.row.specs.Meaning.{in-use, used, Chains, Standing, Stands}
+use Rattle.row.specs.Layout.{slots, places}
+use Rattle.row.specs.Moves.{shifted}
 use Rattle.row.proofs.Cells.{length-written, cell-same, cell-other, cell-apart}
-use Rattle.row.proofs.Chaining.{holder}
-use Rattle.row.proofs.Leaving.{Leaves}
 
 -- one card moved one place to the left
 abbrev moved : List ℕ → ℕ → List ℕ

@@ -1,24 +1,24 @@
 -- A card goes under the invariant: the columns after it are those of a row with one card less.
 use mathlib.Core.Path.{_≡_, refl, sym, ap, _∙_}
-use mathlib.Core.Bool.{Bool, true, false, cond, _&&_}
+use mathlib.Core.Bool.{true}
 use mathlib.Core.List.{List, [], _∷_}
-use mathlib.Core.Logic.{_⊎_, inl, inr}
-use Prim.Native.Nat.{ℕ, zero, suc, _+_, _-_, _≤_, _<_, min}
+use mathlib.Core.Logic.{inl, inr}
+use Prim.Native.Nat.{ℕ, suc, _+_, _-_, _≤_, _<_}
 use native.Mathlib.Omega.{arith}
-use lib.Dec.{eqb, ltb, leb}
+use lib.Dec.{ltb}
 use lib.ListN.{length}
-use Rattle.std.proofs.shelf.Tests.{cases-eq, cases-lt, eq-eqb, ne-eqb, and-parts, ltb-true}
+use Rattle.std.proofs.shelf.Tests.{cases-eq, eq-eqb, ne-eqb, and-parts, ltb-true}
 use Rattle.row.specs.declared.column.Column.{Column}
 use Rattle.row.specs.Lists.{has}
 use Rattle.row.specs.Columns.{cell, written, apart}
 use Rattle.row.specs.Layout.{tally, ids, chain, slots, places, count, fresh}
 use Rattle.row.specs.Lookup.{bucket, entry, withdrawn}
 use Rattle.row.specs.Moves.{shifted, last, closed}
-use Rattle.row.specs.Meaning.{in-use, used, Chains, Standing, Stands}
+use Rattle.row.specs.Meaning.{used, Stands}
 use Rattle.row.proofs.Cells.{length-written, cell-same, cell-other, cell-apart}
 use Rattle.row.proofs.Chaining.{holder, has-head, has-tail}
 use Rattle.row.proofs.Arriving.{bucket-below}
-use Rattle.row.proofs.Leaving.{Leaves, left-standing}
+use Rattle.row.proofs.Leaving.{Leaves}
 use Rattle.row.proofs.Closed.{length-shifted, shifted-apart, shifted-out, shifted-in, shifted-places, shifted-place}
 
 module _ (m : List ℕ) (s : ℕ) where

@@ -1,8 +1,7 @@
 -- The steps of the loop that closes the row.
-use mathlib.Core.Path.{_≡_, refl, ap, _∙_}
+use mathlib.Core.Path.{_≡_}
 use mathlib.Core.List.{List}
-use Prim.Native.Nat.{ℕ, zero, suc, _+_, _-_, _<_, _≤_}
-use native.Mathlib.Omega.{arith}
+use Prim.Native.Nat.{ℕ, _+_, _-_, _<_, _≤_}
 use Rattle.row.specs.Columns.{cell, written}
 use Rattle.row.specs.Layout.{slots, places}
 use Rattle.row.specs.Moves.{shifted}

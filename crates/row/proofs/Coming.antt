@@ -1,13 +1,10 @@
 -- A card that comes is last.
-use mathlib.Core.Path.{_≡_, refl, sym, ap, subst, _∙_}
-use mathlib.Core.Bool.{Bool, true, false, cond, _&&_}
+use mathlib.Core.Path.{_≡_, sym, ap, subst, _∙_}
+use mathlib.Core.Bool.{true, false}
 use mathlib.Core.List.{List, [], _∷_, _++_, map}
-use mathlib.Core.Logic.{_⊎_, inl, inr}
-use Prim.Native.Nat.{ℕ, zero, suc, _+_, _-_, _≤_, _<_}
+use Prim.Native.Nat.{ℕ, suc, _≤_, _<_}
 use native.Mathlib.Omega.{arith}
 use native.Mathlib.Numerals.{add-one}
-use lib.Dec.{eqb, ltb}
-use lib.ListN.{length}
 use Rattle.std.proofs.shelf.Tests.{lt-ltb, le-ltb, both-ways}
 use Rattle.std.proofs.shelf.Counted.{map-counting-more}
 use Rattle.std.specs.Iters.{counting}
@@ -16,13 +13,13 @@ use Rattle.std.specs.declared.result.Result.the-variants.{Ok}
 use Rattle.row.specs.declared.board.Refusal.the-variants.{Exists, Full}
 use Rattle.row.specs.Lists.{has}
 use Rattle.row.specs.Columns.{cell}
-use Rattle.row.specs.Layout.{tally, ids, chain, slots, places, count, fresh}
-use Rattle.row.specs.Lookup.{given, found}
+use Rattle.row.specs.Layout.{ids, chain, slots, places, count, fresh}
+use Rattle.row.specs.Lookup.{found}
 use Rattle.row.specs.Moves.{Outcome, refused, room, slot-for, arrived, came}
-use Rattle.row.specs.Meaning.{used, row-of, cards, Standing, Stands}
+use Rattle.row.specs.Meaning.{used, cards, Standing, Stands}
 use Rattle.row.specs.Laws.{Came, Comes-appends}
 use Rattle.row.proofs.Tabulated.{made-same}
-use Rattle.row.proofs.Arriving.{Arrives, Took, arrived-standing, free}
+use Rattle.row.proofs.Arriving.{Arrives, arrived-standing, free}
 use Rattle.row.proofs.Arrived.{length-arrived, arrived-count, slot-below, took, arrives}
 use Rattle.row.proofs.Present.{length-cards, card-slot, found-there, found-absent, has-card, slot-used}
 

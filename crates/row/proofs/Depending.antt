@@ -1,16 +1,12 @@
 -- What the row means depends on the columns of this crate alone.
 use mathlib.Core.Path.{_≡_, refl, sym, ap, subst, _∙_}
-use mathlib.Core.Bool.{Bool, true, false, _&&_}
-use mathlib.Core.List.{List, [], _∷_, map}
-use Prim.Native.Nat.{ℕ, _+_, _≤_, _<_}
+use mathlib.Core.List.{List, map}
+use Prim.Native.Nat.{ℕ, _+_}
 use native.Mathlib.Omega.{arith}
-use lib.Dec.{eqb, ltb}
-use lib.ListN.{length}
 use Rattle.std.specs.Iters.{counting}
 use Rattle.row.specs.Columns.{cell}
-use Rattle.row.specs.Layout.{tally, ids, chain, slots, places, count, fresh}
-use Rattle.row.specs.Lookup.{bucket}
-use Rattle.row.specs.Meaning.{in-use, used, Spells, Chains, Standing, Stands}
+use Rattle.row.specs.Layout.{ids, chain, slots, places, count, fresh}
+use Rattle.row.specs.Meaning.{in-use, Standing, Stands}
 use Rattle.row.specs.Laws.{Same-row, Depends}
 use Rattle.row.proofs.Tabulated.{made-same}
 use Rattle.row.proofs.Chaining.{spells-move}

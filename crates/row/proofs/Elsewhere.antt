@@ -1,17 +1,14 @@
 -- Nothing but the columns of this crate changes when a card comes or goes.
-use mathlib.Core.Path.{_≡_, refl, sym, ap, subst, _∙_}
-use mathlib.Core.Bool.{Bool, true, false, cond}
+use mathlib.Core.Path.{_≡_, refl, _∙_}
 use mathlib.Core.List.{List}
-use Prim.Native.Nat.{ℕ, _+_, _≤_}
+use Prim.Native.Nat.{ℕ}
 use native.Mathlib.Omega.{arith}
-use lib.ListN.{length}
 use Rattle.std.specs.declared.option.Option.{Option}
 use Rattle.std.specs.declared.option.Option.the-variants.{Some, None}
 use Rattle.row.specs.declared.lookup.Entry.{Entry}
-use Rattle.row.specs.Columns.{cell, apart}
 use Rattle.row.specs.Layout.{tally, chain}
 use Rattle.row.specs.Lookup.{bucket, found, sought, withdrawn}
-use Rattle.row.specs.Moves.{Outcome, room, arrived, closed, came, gone}
+use Rattle.row.specs.Moves.{room, arrived, closed, came, gone}
 use Rattle.row.specs.Laws.{Only-row, Else-stays}
 use Rattle.row.proofs.Cells.{length-written, cell-apart}
 use Rattle.row.proofs.Arrived.{length-arrived, arrived-apart, arrived-tally}

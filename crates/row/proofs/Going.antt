@@ -1,23 +1,21 @@
 -- A card that goes leaves the others in their order.
 use mathlib.Core.Path.{_≡_, refl, sym, ap, subst, _∙_}
-use mathlib.Core.Bool.{Bool, true, false, cond, _&&_, not}
-use mathlib.Core.List.{List, [], _∷_, _++_, map}
-use mathlib.Core.Logic.{_⊎_, inl, inr}
-use Prim.Native.Nat.{ℕ, zero, suc, _+_, _-_, _≤_, _<_}
+use mathlib.Core.Bool.{true, not}
+use mathlib.Core.List.{List, map}
+use Prim.Native.Nat.{ℕ, suc, _-_, _≤_, _<_}
 use native.Mathlib.Omega.{arith}
-use lib.Dec.{eqb, ltb}
-use lib.ListN.{length}
+use lib.Dec.{eqb}
 use Rattle.std.specs.Iters.{counting}
 use Rattle.std.specs.declared.option.Option.the-variants.{Some, None}
 use Rattle.std.specs.declared.result.Result.the-variants.{Ok}
 use Rattle.row.specs.declared.board.Refusal.the-variants.{Missing}
 use Rattle.row.specs.declared.lookup.Entry.{Entry}
-use Rattle.row.specs.Lists.{has, filter}
+use Rattle.row.specs.Lists.{filter}
 use Rattle.row.specs.Columns.{cell}
 use Rattle.row.specs.Layout.{tally, ids, chain, slots, places, count, fresh}
-use Rattle.row.specs.Lookup.{given, bucket, entry, sought, withdrawn}
+use Rattle.row.specs.Lookup.{bucket, entry, sought, withdrawn}
 use Rattle.row.specs.Moves.{Outcome, refused, closed, gone}
-use Rattle.row.specs.Meaning.{used, row-of, cards, Standing, Stands}
+use Rattle.row.specs.Meaning.{used, Standing, Stands}
 use Rattle.row.specs.Laws.{Gone, Goes-filters}
 use Rattle.row.proofs.Tabulated.{filter-made}
 use Rattle.row.proofs.Leaving.{Leaves, left-standing}

@@ -1,18 +1,17 @@
 -- A card goes: what stands, stands with one card less. Over any columns.
-use mathlib.Core.Path.{_≡_, refl, sym, ap, subst, _∙_}
-use mathlib.Core.Bool.{Bool, true, false, cond, _&&_, _||_, not}
-use mathlib.Core.List.{List, [], _∷_}
-use mathlib.Core.Logic.{_⊎_, inl, inr}
-use Prim.Native.Nat.{ℕ, zero, suc, _+_, _-_, _≤_, _<_}
+use mathlib.Core.Path.{_≡_, refl, sym, ap, _∙_}
+use mathlib.Core.Bool.{true, false, cond, not}
+use mathlib.Core.Logic.{inl, inr}
+use Prim.Native.Nat.{ℕ, suc, _+_, _-_, _≤_, _<_}
 use native.Mathlib.Omega.{arith}
-use lib.Dec.{eqb, ltb}
+use lib.Dec.{eqb}
 use Rattle.std.proofs.shelf.Ways.{tells}
-use Rattle.std.proofs.shelf.Tests.{cases-eq, cases-lt, eq-eqb, ne-eqb, both-ways, and-parts, and-from, lt-ltb, le-ltb, ltb-true, eqb-true}
-use Rattle.row.specs.Lists.{any, has, distinct}
+use Rattle.std.proofs.shelf.Tests.{cases-eq, cases-lt, eq-eqb, ne-eqb, both-ways, and-parts, and-from, le-ltb, ltb-true, eqb-true}
+use Rattle.row.specs.Lists.{has}
 use Rattle.row.specs.Lookup.{bucket}
-use Rattle.row.specs.Meaning.{in-use, Spells, Chains, Standing}
+use Rattle.row.specs.Meaning.{in-use, Chains, Standing}
 use Rattle.row.proofs.Filters.{has-filter, distinct-filter}
-use Rattle.row.proofs.Chaining.{Free, holder, holder-apart, without, spells-move, spells-withdrawn, has-at}
+use Rattle.row.proofs.Chaining.{holder, holder-apart, without, spells-move, spells-withdrawn}
 use Rattle.row.proofs.Arriving.{bucket-below}
 
 -- the columns after the card in the slot s went, from the place q, of c + 1 cards; h is the pointer that held it

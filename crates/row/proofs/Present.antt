@@ -1,28 +1,27 @@
 -- A card is found if and only if it's there, and at its place.
 use mathlib.Core.Path.{_≡_, refl, sym, ap, _∙_}
-use mathlib.Core.Bool.{Bool, true, false, cond, _&&_}
-use mathlib.Core.List.{List, [], _∷_, map}
-use mathlib.Core.Logic.{_⊎_, inl, inr}
-use Prim.Native.Nat.{ℕ, zero, suc, _+_, _-_, _≤_, _<_}
+use mathlib.Core.Bool.{true, false}
+use mathlib.Core.List.{List}
+use mathlib.Core.Logic.{inl, inr}
+use Prim.Native.Nat.{ℕ, _-_, _<_}
 use native.Mathlib.Omega.{arith}
-use lib.Dec.{eqb, ltb}
+use lib.Dec.{ltb}
 use lib.ListN.{length}
 use Rattle.std.proofs.shelf.Tests.{cases-bool, eq-eqb, and-parts, and-from, lt-ltb, ltb-true, both-ways}
 use Rattle.std.proofs.shelf.Counted.{length-map-counting}
-use Rattle.std.specs.Iters.{counting}
 use Rattle.std.specs.declared.option.Option.the-variants.{Some, None}
-use Rattle.row.specs.Lists.{has, place, distinct}
+use Rattle.row.specs.Lists.{has, place}
 use Rattle.row.specs.Columns.{cell}
-use Rattle.row.specs.Layout.{ids, chain, slots, places, count, fresh}
-use Rattle.row.specs.Lookup.{given, bucket, entry, sought, found}
+use Rattle.row.specs.Layout.{ids, slots, places, count, fresh}
+use Rattle.row.specs.Lookup.{bucket, entry, sought, found}
 use Rattle.row.specs.Moves.{place-found}
-use Rattle.row.specs.Meaning.{in-use, used, row-of, cards, Chains, Standing, Stands}
+use Rattle.row.specs.Meaning.{used, cards, Stands}
 use Rattle.row.specs.Laws.{Apart, Finds}
-use Rattle.row.proofs.Tabulated.{made-has, has-made, has-not-made, place-made, distinct-made}
+use Rattle.row.proofs.Tabulated.{made-has, has-made, place-made, distinct-made}
 use Rattle.row.proofs.Chaining.{few-below, holder}
 use Rattle.row.proofs.Sought.{sought-none, sought-some}
 use Rattle.row.proofs.Arriving.{bucket-below}
-use Rattle.row.proofs.Closes.{used-below, chain-below}
+use Rattle.row.proofs.Closes.{chain-below}
 
 module _ (m : List ℕ) (S : Stands m) where
   abbrev card : ℕ → ℕ

@@ -3,7 +3,7 @@ use mathlib.Core.Path.{_≡_, refl, sym, ap, subst, _∙_}
 use mathlib.Core.Bool.{Bool, true, false, cond, _||_}
 use mathlib.Core.List.{List, [], _∷_, _++_}
 use mathlib.Core.Logic.{_⊎_, inl, inr}
-use Prim.Native.Nat.{ℕ, suc, _+_, _/_, _%_, _<_, _≤_}
+use Prim.Native.Nat.{ℕ, suc, _+_, _/_, _%_}
 use native.Mathlib.Omega.{arith}
 use lib.Dec.{eqb, ltb}
 use lib.ListN.{length}
@@ -12,7 +12,6 @@ use Rattle.std.proofs.shelf.Tests.{cases-bool, eqb-true, ltb-true, or-cases}
 use Rattle.std.specs.declared.option.Option.{Option}
 use Rattle.std.specs.declared.option.Option.the-variants.{Some, None}
 use Rattle.row.specs.declared.board.Link.{Link}
-use Rattle.row.specs.declared.keeping.Reply.{Reply}
 use Rattle.row.specs.declared.keeping.Reply.the-variants.{Kept, Broken, Refused}
 use Rattle.row.specs.Lists.{every}
 use Rattle.row.specs.Board.{keeps}
