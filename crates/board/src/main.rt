@@ -1,15 +1,11 @@
 // Keeps a board by a file of sayings.
 mod sayings;
 
-use keeper::Act;
-use keeper::Event;
 use keeper::MEMORY;
 use keeper::OUTPUT;
-use keeper::Reason;
-use keeper::step;
+use keeper::play;
+use keeper::read_row;
 use row::Command;
-use row::len;
-use row::tell;
 use sayings::Front;
 use sayings::first;
 use std::env;
@@ -46,13 +42,6 @@ A byte that says nothing, or an end inside a saying: the lines so far, then a
 message on standard error that names the saying by its number, and status 1.
 ";
 
-// How a command ended: how many numbers it showed, and why it was refused, if it was.
-#[derive(Clone, Copy)]
-struct Played {
-    shown: usize,
-    refused: Option<Reason>,
-}
-
 // The keeper's memory, what it tells and shows, and the lines that are still to be printed.
 #[derive(Drop)]
 struct Player {
@@ -70,31 +59,6 @@ impl Player {
         })
     }
 
-    // Says a command, and goes on until it's at its end.
-    fn play(&mut self, command: Command) -> Played {
-        let mut event = Event::Said(command);
-        let mut shown = 0;
-        for _i in 0..4u8 {
-            match step(self.memory.as_mut_slice(), event, self.out.as_mut_slice()) {
-                Act::Tells(_, _) => {}
-                Act::Shows(n) => shown = n as usize,
-                Act::Done => return Played {
-                    shown,
-                    refused: None,
-                },
-                Act::Refused(reason) => return Played {
-                    shown,
-                    refused: Some(reason),
-                },
-            }
-            event = Event::Next;
-        }
-        Played {
-            shown,
-            refused: None,
-        }
-    }
-
     // Writes the first numbers of the output, with a space between.
     fn write_out(&mut self, n: usize) -> Result<(), AnyError> {
         for (i, number) in self.out.iter().take(n).enumerate() {
@@ -108,7 +72,7 @@ impl Player {
 
     // Says a command, and writes the line that answers it.
     fn answer(&mut self, command: Command) -> Result<(), AnyError> {
-        let played = self.play(command);
+        let played = play(self.memory.as_mut_slice(), command, self.out.as_mut_slice());
         if let Some(reason) = played.refused {
             let number = reason.number();
             write!(self.lines, "refused {number}")?;
@@ -116,10 +80,9 @@ impl Player {
                 self.lines.push_str(": ")?;
             }
         }
-        let mut n = played.shown;
+        let mut n = played.shown as usize;
         if n == 0 && played.refused.is_none() {
-            let cards = len(self.memory.as_slice());
-            n = tell(self.memory.as_slice(), 0, cards, self.out.as_mut_slice()) as usize;
+            n = read_row(self.memory.as_slice(), self.out.as_mut_slice()) as usize;
         }
         self.write_out(n)?;
         self.lines.push_str("\n")?;

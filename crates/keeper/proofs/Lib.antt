@@ -26,3 +26,6 @@ pub mod Backward
 pub mod Moving
 pub mod ToldParts
 pub mod Wholly
+pub mod PlayedOn
+pub mod PlayedRun
+pub mod RowRead

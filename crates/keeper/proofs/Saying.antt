@@ -46,7 +46,7 @@ went-round m e = rw (ne-eqb (pending m) 3 (λ z. omega arith), ne-eqb (pending m
 pub run-done : (m m₁ : List ℕ) (c : Command) → pending m ≡ 0 → small-command c ≡ true → said m c ≡ quiet (ends Done m₁) → run-of 3 own m c ≡ ran m₁ [] [] 0
 run-done m m₁ c i sm e = done-at-once own m m₁ (Said c) (step-said m c _ i sm e)
 
-number-fits : (w : Refusal) → (1 ≤ number w) × (number w < 1000)
+pub number-fits : (w : Refusal) → (1 ≤ number w) × (number w < 1000)
 number-fits Missing = (omega arith, omega arith)
 number-fits Exists = (omega arith, omega arith)
 number-fits Cycle = (omega arith, omega arith)

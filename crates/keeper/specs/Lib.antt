@@ -9,3 +9,5 @@ pub mod Reordering
 pub mod Linking
 pub mod Own
 pub mod Meaning
+pub mod Playing
+pub mod PlayLaws

@@ -4,6 +4,7 @@ ghost use Rattle.keeper.specs.Promise.{Whole};
 ghost use Rattle.keeper.specs.Sister.{Whole-in, Soon-is-more, End-stays, One-board};
 ghost use Rattle.keeper.specs.Sized.{Fits};
 ghost use Rattle.keeper.specs.Excluded.{Idle-is-not, Endless-is-not};
+ghost use Rattle.keeper.specs.PlayLaws.{Plays, Plays-unfit, Reads-row};
 
 // What meets the firmer promise meets the promise.
 pub fn soon_is_more_stands() -> u8
@@ -57,6 +58,27 @@ pub fn whole_in_stands() -> u8
 // Its answers fit what carries them, whatever stands in its memory.
 pub fn fits_stands() -> u8
     ensures { λ _. ⌜ Fits own ⌝ }
+{
+    0
+}
+
+// A command that is played is done or refused as the board says, and the memory then means the board that it leaves.
+pub fn plays_stands() -> u8
+    ensures { λ _. ⌜ Plays ⌝ }
+{
+    0
+}
+
+// A command that is played on a memory or with an output that doesn't fit is refused, and changes nothing.
+pub fn plays_unfit_stands() -> u8
+    ensures { λ _. ⌜ Plays-unfit ⌝ }
+{
+    0
+}
+
+// The row that is read is the board's.
+pub fn reads_row_stands() -> u8
+    ensures { λ _. ⌜ Reads-row ⌝ }
 {
     0
 }
