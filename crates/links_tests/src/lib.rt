@@ -89,59 +89,25 @@ mod tests {
     fn built_again_when_most_are_dead(rt: LibcRuntime) -> Result<(), Fail> {
         let mut v = vec![in rt.alloc(); 0u64; SIZE]?;
         let memory = v.as_mut_slice();
+        let half = Link {
+            from: 2012,
+            to: 2013,
+        };
+        let last = Link {
+            from: 2999,
+            to: 3000,
+        };
         for i in 0..3000u64 {
             insert(memory, Link { from: i, to: i + 1 });
         }
-        check_eq(
-            find(
-                memory,
-                Link {
-                    from: 2999,
-                    to: 3000,
-                },
-            ),
-            Some(2999),
-        )?;
+        check_eq(find(memory, last), Some(2999))?;
         for i in 0..2012u64 {
             check(remove(memory, Link { from: i, to: i + 1 }).is_ok())?;
         }
-        check_eq(
-            find(
-                memory,
-                Link {
-                    from: 2999,
-                    to: 3000,
-                },
-            ),
-            Some(2999),
-        )?;
-        check(remove(
-            memory,
-            Link {
-                from: 2012,
-                to: 2013,
-            },
-        ).is_ok())?;
-        check_eq(
-            find(
-                memory,
-                Link {
-                    from: 2999,
-                    to: 3000,
-                },
-            ),
-            Some(986),
-        )?;
-        check_eq(
-            find(
-                memory,
-                Link {
-                    from: 2012,
-                    to: 2013,
-                },
-            ),
-            None,
-        )?;
+        check_eq(find(memory, last), Some(2999))?;
+        check(remove(memory, half).is_ok())?;
+        check_eq(find(memory, last), Some(986))?;
+        check_eq(find(memory, half), None)?;
         for i in 2013..3000u64 {
             check_eq(find(memory, Link { from: i, to: i + 1 }), Some(i - 2013))?;
             check_eq(walk(memory, Chain::Out, i), (1, i + 1))?;
