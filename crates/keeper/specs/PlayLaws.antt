@@ -5,6 +5,7 @@
 --   Plays            from a memory that means a board on, a command that the board lets be done is done, and the memory then means the board after it; a
 --                    command that the board refuses is refused for the board's reason, and the memory means the same board
 --   Plays-unfit      where the memory or the output doesn't fit, the command is refused, and nothing is changed
+--   Reads-row        the row that is read from a memory that means a board is the board's
 use mathlib.Core.Path.{_≡_}
 use mathlib.Core.Bool.{true, false}
 use mathlib.Core.List.{List, _++_}
@@ -39,7 +40,6 @@ Plays-unfit =
     (m : List ℕ) (c : Command) (out : List ℕ) → step-fits m out ≡ false →
     played m c out ≡ record { answer = record { shown = 0; refused = Some Unfit }; memory = m; out = out }
 
--- the row that is read from a memory that means a board is the board's
 abbrev pub Reads-row : Type 0
 Reads-row =
     (m : List ℕ) (r : Board) (out : List ℕ) → Means m r → length (r .row) ≤ length out →

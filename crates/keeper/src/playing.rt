@@ -1,6 +1,10 @@
 // A command, played to its end.
 ghost use mathlib.Core.Path.{_≡_};
+ghost use Rattle.keeper.specs.Own.{own};
 ghost use Rattle.keeper.specs.Playing.{played};
+ghost use Rattle.keeper.specs.PlayLaws.{Plays};
+ghost use Rattle.keeper.specs.Promise.{Whole};
+ghost use Rattle.keeper.specs.Sister.{Whole-in};
 ghost use Rattle.row.specs.Layout.{count};
 ghost use Rattle.row.specs.Telling.{told, told-count};
 use crate::event::Act;
@@ -18,11 +22,15 @@ pub struct Played {
     pub refused: Option<Reason>,
 }
 
-// Says a command, and goes on until it's at its end. Three steps are enough, unless the memory isn't a keeper's.
+// Says a command, and goes on until it's at its end. Three steps are enough, unless the memory isn't a keeper's. The steps are those of the engine that
+// meets the promise; what is played is then done or refused as the board says.
 pub fn play(memory: &mut [u64], command: Command, out: &mut [u64]) -> Played
     ensures answer { λ r. ⌜ r ≡ played (now (memory .entry)) command (now (out .entry)) .answer ⌝ }
     ensures after { λ _. ⌜ now (memory .exit) ≡ played (now (memory .entry)) command (now (out .entry)) .memory ⌝ }
     ensures out { λ _. ⌜ now (out .exit) ≡ played (now (memory .entry)) command (now (out .entry)) .out ⌝ }
+    ensures whole { λ _. ⌜ Whole own ⌝ }
+    ensures firmer { λ _. ⌜ Whole-in 3 own ⌝ }
+    ensures right { λ _. ⌜ Plays ⌝ }
 {
     let mut event = Event::Said(command);
     let mut shown = 0;

@@ -2,6 +2,8 @@ use mathlib.Core.Path.{sym, ap, _∙_}
 use native.Mathlib.Omega.{arith}
 use Rattle.keeper.specs.Playing.{Ending}
 use Rattle.keeper.proofs.PlayedOn.{plays-tells, plays-shows, plays-done, plays-refused, plays-end}
+use Rattle.keeper.proofs.PlayedRun.{plays-right}
+use Rattle.keeper.proofs.Wholly.{whole-own, whole-in-own}
 use Rattle.keeper.proofs.playing.play.Needs.{in-Tells, in-Shows}
 use Rattle.keeper.proofs.playing.play.Needs as need
 
@@ -9,13 +11,13 @@ pub returns-in-Done : need.returns-in-Done
 returns-in-Done c =
     let l = c .loop-i in
     let e = sym (plays-done (l .-i) (l .memory) (l .event) (l .out) _ _ _ (l .shown) (omega arith) (c .step .ensures .says) (c .in-Done .is)) ∙ l .inv in
-    record { answer = ap (λ (x : Ending). x .answer) e; after = ap (λ (x : Ending). x .memory) e; out = ap (λ (x : Ending). x .out) e }
+    record { answer = ap (λ (x : Ending). x .answer) e; after = ap (λ (x : Ending). x .memory) e; out = ap (λ (x : Ending). x .out) e; whole = whole-own; firmer = whole-in-own; right = plays-right }
 
 pub returns-in-Refused : need.returns-in-Refused
 returns-in-Refused c =
     let l = c .loop-i in
     let e = sym (plays-refused (l .-i) (l .memory) (l .event) (l .out) _ _ _ (l .shown) (omega arith) (c .step .ensures .says) _ (c .in-Refused .is)) ∙ l .inv in
-    record { answer = ap (λ (x : Ending). x .answer) e; after = ap (λ (x : Ending). x .memory) e; out = ap (λ (x : Ending). x .out) e }
+    record { answer = ap (λ (x : Ending). x .answer) e; after = ap (λ (x : Ending). x .memory) e; out = ap (λ (x : Ending). x .out) e; whole = whole-own; firmer = whole-in-own; right = plays-right }
 
 pub loop-i-again : need.loop-i-again
 loop-i-again c =
@@ -31,4 +33,4 @@ pub returns : need.returns
 returns c =
     let l = c .loop-i in
     let e = sym (plays-end (l .-i) (l .memory) (l .event) (l .out) (l .shown) (omega arith)) ∙ l .inv in
-    record { answer = ap (λ (x : Ending). x .answer) e; after = ap (λ (x : Ending). x .memory) e; out = ap (λ (x : Ending). x .out) e }
+    record { answer = ap (λ (x : Ending). x .answer) e; after = ap (λ (x : Ending). x .memory) e; out = ap (λ (x : Ending). x .out) e; whole = whole-own; firmer = whole-in-own; right = plays-right }
