@@ -1,4 +1,5 @@
 // Keeps a board by a file of sayings.
+#![tactic(auto)]
 mod sayings;
 
 use anyhow::anyhow;

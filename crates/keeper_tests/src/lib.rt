@@ -1,4 +1,5 @@
 // The keeper, tried out on memory of the heap.
+#![tactic(auto)]
 #[cfg(test)]
 mod cases;
 #[cfg(test)]

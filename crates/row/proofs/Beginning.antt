@@ -51,10 +51,13 @@ module _ (m : List ℕ) (long : 41240 ≤ length m) (z : (c : Column) (i : ℕ) 
   pub zeros_cards : cards m ≡ []
   zeros_cards = rw (z tally 0)
 
+begins_at : (n : ℕ) → 41240 ≤ n → Stands (replicate n 0) × (cards (replicate n 0) ≡ [])
+begins_at n h =
+    let l : 41240 ≤ length {A = ℕ} (replicate n 0) = omega (arith, length-replicate {A = ℕ} n 0) in
+    (zeros_stand (replicate n 0) l (cell_zeros n), zeros_cards (replicate n 0) l (cell_zeros n))
+
 pub begins : Begins
-begins =
-    let l : 41240 ≤ length {A = ℕ} (replicate 524288 0) = omega (arith, length-replicate {A = ℕ} 524288 0) in
-    (zeros_stand (replicate 524288 0) l (cell_zeros 524288), zeros_cards (replicate 524288 0) l (cell_zeros 524288))
+begins = begins_at 524288 (omega arith)
 
 -- the slots in their column, from a place on
 slot_read : (m : List ℕ) (p i : ℕ) → p + i < 8192 → get_or m (24784 + p + i) 0 ≡ cell m slots (p + i)

@@ -1,4 +1,6 @@
 // A row of cards in lent memory, links that say which card has to stand before which, and what is proved of them.
+#![tactic(auto)]
+
 mod board;
 mod cards;
 mod column;

@@ -1,4 +1,5 @@
 // Says whether a row of cards keeps links.
+#![tactic(auto)]
 mod input;
 
 ghost use Rattle.row.specs.Kept.{Names};

@@ -5,4 +5,4 @@ use Rattle.batch.specs.Circling.{back}
 use Rattle.batch.proofs.circling.go_back.Given as goal
 
 abbrev pub invariant-loop-i : goal.invariant-loop-i
-invariant-loop-i l = back (cell l.memory numbers) (8192 - l.-i) l.slot ≡ back (cell l.memory numbers) 8192 l.first
+invariant-loop-i l = back (cell l.memory numbers) (8192 - l._i) l.slot ≡ back (cell l.memory numbers) 8192 l.first

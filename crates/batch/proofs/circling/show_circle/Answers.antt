@@ -13,7 +13,7 @@ returns c =
     let m = c.trace.new.memory in
     let out = c.args.out.now in
     let f = c.follow-len.ensures in
-    let ks = trail (cell m numbers) (length out) c.go-back-last.result c.get.result in
+    let ks = trail (cell m numbers) (length out) c.go_back-last.result c.get.result in
     let e : reverse ks ≡ round (traced c.args.memory.now c.args.n) (length out) = cc in
     record {
       is = f.is ∙ sym (length-reverse ks) ∙ ap length e;

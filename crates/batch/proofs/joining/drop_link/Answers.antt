@@ -6,6 +6,6 @@ pub returns-in-Some : goal.returns-in-Some
 unfolding dropped
 returns-in-Some c = search rules
 
-pub returns-in-default : goal.returns-in-default
+pub returns-in_default : goal.returns-in_default
 unfolding dropped
-returns-in-default c = search rules
+returns-in_default c = search rules

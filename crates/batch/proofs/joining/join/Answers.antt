@@ -2,9 +2,9 @@ use Rattle.std.proofs.Common.{rules}
 use Rattle.batch.specs.Joining.{joined}
 use Rattle.batch.proofs.joining.join.Goals as goal
 
-pub returns-in-default : goal.returns-in-default
+pub returns-in_default : goal.returns-in_default
 unfolding joined
-returns-in-default c = search rules
+returns-in_default c = search rules
 
 pub returns-then-slots : goal.returns-then-slots
 unfolding joined

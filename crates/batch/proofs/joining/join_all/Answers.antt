@@ -25,7 +25,7 @@ pub loop-i-preserved : goal.loop-i-preserved
 loop-i-preserved c =
     let l = c.loop-i in
     let j = c.join.ensures in
-    let w = no_way _ (sym j.is ∙ c.in-default.is) in (
+    let w = no_way _ (sym j.is ∙ c.in_default.is) in (
       ap (λ (m : List ℕ). tried m (drop (l.i + 1) c.args.batch.now) (l.i + 1)) j.after
           ∙ sym (tried_on l.memory c.args.batch.now l.i _ c.loop-i-test.true w) ∙ l.invariant.0,
       j.out ∙ ap₂ (λ (ks out : List ℕ). fronted ks out) (ap way_cards w) l.invariant.1,

@@ -6,7 +6,7 @@ use Rattle.batch.proofs.joining.take_out.Goals as goal
 pub loop-i-preserved : goal.loop-i-preserved
 loop-i-preserved c =
     let l = c.loop-i in
-    ap (λ (m : List ℕ). taken_out m (drop (l.i + 1) c.args.batch.now)) c.drop-link.ensures
+    ap (λ (m : List ℕ). taken_out m (drop (l.i + 1) c.args.batch.now)) c.drop_link.ensures
     ∙ sym (taken_on l.memory c.args.batch.now l.i _ c.loop-i-test.true) ∙ l.invariant
 
 pub returns : goal.returns

@@ -15,7 +15,7 @@ loop-i-preserved c =
     let l = c.loop-i in
     let j = c.comes.ensures in
     ap (λ (m : List ℕ). cards_come m (drop (l.i + 1) c.args.row.now)) j.after
-    ∙ sym (cards_on l.memory c.args.row.now l.i _ c.loop-i-test.true _ (sym j.is ∙ c.in-default.is)) ∙ l.invariant
+    ∙ sym (cards_on l.memory c.args.row.now l.i _ c.loop-i-test.true _ (sym j.is ∙ c.in_default.is)) ∙ l.invariant
 
 pub returns : goal.returns
 returns c =

@@ -6,7 +6,7 @@ use Rattle.batch.proofs.loading.put_all.Goals as goal
 pub loop-i-preserved : goal.loop-i-preserved
 loop-i-preserved c =
     let l = c.loop-i in
-    ap (λ (m : List ℕ). put_all m (drop (l.i + 1) c.args.links.now)) c.put-one.ensures
+    ap (λ (m : List ℕ). put_all m (drop (l.i + 1) c.args.links.now)) c.put_one.ensures
     ∙ sym (put_on l.memory c.args.links.now l.i _ c.loop-i-test.true) ∙ l.invariant
 
 pub returns : goal.returns

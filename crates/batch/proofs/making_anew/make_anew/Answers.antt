@@ -26,7 +26,7 @@ returns c =
     let a = c.args in
     let l = c.load.ensures in
     let f = c.finish.ensures in
-    let e = anew_so a.memory.now a.row.now a.links.now a.out.now (omega arith) (omega arith) _ _ l.is c.in-default.is l.after in
+    let e = anew_so a.memory.now a.row.now a.links.now a.out.now (omega arith) (omega arith) _ _ l.is c.in_default.is l.after in
     record {
       answer = f.answer ∙ ap (λ (x : Made). x.answer) e;
       after = f.after ∙ ap (λ (x : Made). x.memory) e;

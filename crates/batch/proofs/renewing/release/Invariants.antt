@@ -3,4 +3,4 @@ use Rattle.batch.specs.Renewing.{released}
 use Rattle.batch.proofs.renewing.release.Given as goal
 
 abbrev pub invariant-loop-i : goal.invariant-loop-i
-invariant-loop-i l = released (l.turns - l.-i) l.memory l.pointer ≡ released l.turns l.initial.memory l.slot
+invariant-loop-i l = released (l.turns - l._i) l.memory l.pointer ≡ released l.turns l.initial.memory l.slot

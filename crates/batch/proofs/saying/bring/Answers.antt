@@ -26,7 +26,7 @@ returns-then-not-span c =
 pub returns : goal.returns
 returns c =
     let h = c.if-not-span.false in
-    let t = c.tell-span.ensures in
+    let t = c.tell_span.ensures in
     let e = brought_told c.args.memory.now c.args.batch.now c.args.span (omega (arith, c.len.ensures, c.if-len-gt-LINKS.false)) (grind arith) in
     record {
       act = t.act ∙ sym (ap (λ (a : Answer). a.act) e);

@@ -10,15 +10,15 @@ use Rattle.batch.proofs.Trying.{no_way, a_way}
 use Rattle.batch.proofs.SayingSteps.{trial_done, trial_round}
 use Rattle.batch.proofs.saying.rearrange.Goals as goal
 
-pub returns-in-default : goal.returns-in-default
+pub returns-in_default : goal.returns-in_default
 unfolding rearranged
-returns-in-default c =
+returns-in_default c =
     let ls = c.args.batch.now in
     let s = c.args.span in
     let t = tried c.save.new.memory ls 0 in
-    let j = c.join-all-trial.ensures in
+    let j = c.join_all-trial.ensures in
     let b = c.bring.ensures in
-    let w = no_way t.way (sym j.shown ∙ c.in-default.is) in
+    let w = no_way t.way (sym j.shown ∙ c.in_default.is) in
     let e = ap (λ (m : List ℕ). brought m ls s) j.after ∙ sym (trial_done t ls s w)
     ∙ ap (λ (m : List ℕ). by_trial (tried m ls 0) ls s) c.save.ensures in
     record {
@@ -33,7 +33,7 @@ returns c =
     let ls = c.args.batch.now in
     let s = c.args.span in
     let t = tried c.save.new.memory ls 0 in
-    let j = c.join-all-trial.ensures in
+    let j = c.join_all-trial.ensures in
     let w = a_way t.way c.in-Some.n (sym j.shown ∙ c.in-Some.is) in
     let e = sym (trial_round t ls s w.0 w.1) ∙ ap (λ (m : List ℕ). by_trial (tried m ls 0) ls s) c.save.ensures in
     let n : c.in-Some.n ≡ length w.0 =

@@ -6,9 +6,9 @@ pub returns-then-batch-gt-BATCH : goal.returns-then-batch-gt-BATCH
 unfolding said_several
 returns-then-batch-gt-BATCH c = search rules
 
-pub returns-then-not-all-there : goal.returns-then-not-all-there
+pub returns-then-not-all_there : goal.returns-then-not-all_there
 unfolding said_several
-returns-then-not-all-there c = search rules
+returns-then-not-all_there c = search rules
 
 pub returns-then-repeats : goal.returns-then-repeats
 unfolding said_several

@@ -5,8 +5,8 @@ use Rattle.batch.proofs.sorting.sort_part.Goals as goal
 
 pub returns-then-high-memory : goal.returns-then-high-memory
 returns-then-high-memory c =
-    let s = c.sort-unstable.ensures in
-    part_sorted c.args.memory.now c.args.low c.args.high c.sort-unstable.new.self (omega arith) (omega arith) s.permutation
+    let s = c.sort_unstable.ensures in
+    part_sorted c.args.memory.now c.args.low c.args.high c.sort_unstable.new.self (omega arith) (omega arith) s.permutation
     (IsNonDecreasingBy-from_sort (λ x. x) _ s.sorted)
 
 pub returns-else-low-high : goal.returns-else-low-high

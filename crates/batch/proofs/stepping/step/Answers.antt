@@ -23,7 +23,7 @@ returns-in-Said c =
 pub returns-in-Several : goal.returns-in-Several
 returns-in-Several c =
     record {
-      says = heard_so c.args.memory.now c.args.event Several c.args.batch.now c.args.out.now _ _ _ c.in-Several.is c.begin-several.ensures;
+      says = heard_so c.args.memory.now c.args.event Several c.args.batch.now c.args.out.now _ _ _ c.in-Several.is c.begin_several.ensures;
       whole = whole_in_own;
       fits = own_fits;
     }
@@ -31,7 +31,7 @@ returns-in-Several c =
 pub returns-in-Anew : goal.returns-in-Anew
 returns-in-Anew c =
     record {
-      says = heard_so c.args.memory.now c.args.event Anew c.args.batch.now c.args.out.now _ _ _ c.in-Anew.is c.begin-anew.ensures;
+      says = heard_so c.args.memory.now c.args.event Anew c.args.batch.now c.args.out.now _ _ _ c.in-Anew.is c.begin_anew.ensures;
       whole = whole_in_own;
       fits = own_fits;
     }

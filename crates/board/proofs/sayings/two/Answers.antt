@@ -2,9 +2,9 @@ use Rattle.std.proofs.Common.{rules}
 use Rattle.board.specs.Sayings.{of_two}
 use Rattle.board.proofs.sayings.two.Goals as goal
 
-pub returns-in-default : goal.returns-in-default
+pub returns-in_default : goal.returns-in_default
 unfolding of_two
-returns-in-default c = search rules
+returns-in_default c = search rules
 
 pub returns-then-kind-eq2 : goal.returns-then-kind-eq2
 unfolding of_two

@@ -38,8 +38,8 @@ returns-in-Next c =
     record {
       says =
           took m c.args.event c.args.out.now _ _ _ c.if-memory-ne-MEMORY.false c.if-out-lt-OUTPUT.false
-          (c.go-on.ensures.act ∙ sym (ap (λ (a : Answer). a.act) e)) (c.go-on.ensures.after ∙ sym (ap (λ (a : Answer). a.memory) e))
-          (c.go-on.ensures.out ∙ sym (ap (λ (a : Answer). a.numbers ++ drop (length a.numbers) c.args.out.now) e));
+          (c.go_on.ensures.act ∙ sym (ap (λ (a : Answer). a.act) e)) (c.go_on.ensures.after ∙ sym (ap (λ (a : Answer). a.memory) e))
+          (c.go_on.ensures.out ∙ sym (ap (λ (a : Answer). a.numbers ++ drop (length a.numbers) c.args.out.now) e));
       whole = whole_own;
       firmer = whole_in_own;
       fits = own_fits;

@@ -2,10 +2,10 @@ use Rattle.std.proofs.Common.{rules}
 use Rattle.links.specs.Entries.{buried}
 use Rattle.links.proofs.entries.bury.Goals as goal
 
-pub returns-then-from-of-lt-SLOTS : goal.returns-then-from-of-lt-SLOTS
+pub returns-then-from_of-lt-SLOTS : goal.returns-then-from_of-lt-SLOTS
 unfolding buried
-returns-then-from-of-lt-SLOTS c = search rules
+returns-then-from_of-lt-SLOTS c = search rules
 
-pub returns-else-from-of-lt-SLOTS : goal.returns-else-from-of-lt-SLOTS
+pub returns-else-from_of-lt-SLOTS : goal.returns-else-from_of-lt-SLOTS
 unfolding buried
-returns-else-from-of-lt-SLOTS c = search rules
+returns-else-from_of-lt-SLOTS c = search rules

@@ -3,4 +3,4 @@ use Rattle.links.specs.Removing.{struck}
 use Rattle.links.proofs.removing.strike.Given as goal
 
 abbrev pub invariant-loop-i : goal.invariant-loop-i
-invariant-loop-i l = struck (67584 - l.-i) l.memory l.chain l.pointer ≡ struck 67584 l.initial.memory l.chain l.first
+invariant-loop-i l = struck (67584 - l._i) l.memory l.chain l.pointer ≡ struck 67584 l.initial.memory l.chain l.first

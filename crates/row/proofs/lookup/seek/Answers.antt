@@ -2,8 +2,8 @@ use Rattle.std.proofs.Common.{sym, ◌∙◌, arith}
 use Rattle.row.proofs.Seeking.{steps}
 use Rattle.row.proofs.lookup.seek.Goals as goal
 
-pub returns-in-default : goal.returns-in-default
-returns-in-default c = record { is = grind (arith, steps); below = tt }
+pub returns-in_default : goal.returns-in_default
+returns-in_default c = record { is = grind (arith, steps); below = tt }
 
 pub returns-then-get-card : goal.returns-then-get-card
 returns-then-get-card c = record { is = grind (arith, steps); below = c.in-Some.ensures.below }

@@ -16,4 +16,4 @@ returns c =
     let p = c.args.place in
     let n = c.args.n in
     let e = part_is (cell c.args.memory.now ids) c.args.memory.now c.args.out.now (24784 + p) (24784 + p + n) n (omega arith) (omega arith) in
-    record { is = grind (arith, nat_tests); out = c.name-all.ensures ∙ e ∙ grind (arith, nat_tests) }
+    record { is = grind (arith, nat_tests); out = c.name_all.ensures ∙ e ∙ grind (arith, nat_tests) }

@@ -4,9 +4,9 @@ use Rattle.search.specs.Hunt.{entered}
 use Rattle.search.specs.Marks.{added}
 use Rattle.search.proofs.hunt.enter.Goals as goal
 
-pub returns-then-is-seen : goal.returns-then-is-seen
+pub returns-then-is_seen : goal.returns-then-is_seen
 unfolding entered
-returns-then-is-seen c = record { is = grind (arith, nat_tests); after = grind (arith, nat_tests) }
+returns-then-is_seen c = record { is = grind (arith, nat_tests); after = grind (arith, nat_tests) }
 
 pub returns-then-add : goal.returns-then-add
 unfolding entered

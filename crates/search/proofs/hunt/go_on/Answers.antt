@@ -2,13 +2,13 @@ use Rattle.std.proofs.Common.{arith, rules}
 use Rattle.search.specs.Hunt.{gone_on}
 use Rattle.search.proofs.hunt.go_on.Goals as goal
 
-pub returns-in-default : goal.returns-in-default
+pub returns-in_default : goal.returns-in_default
 unfolding gone_on
-returns-in-default c = search rules
+returns-in_default c = search rules
 
-pub returns-in-default-met : goal.returns-in-default-met
+pub returns-in_default-met : goal.returns-in_default-met
 unfolding gone_on
-returns-in-default-met c = search rules
+returns-in_default-met c = search rules
 
 pub returns : goal.returns
 unfolding gone_on

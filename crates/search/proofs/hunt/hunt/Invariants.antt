@@ -3,4 +3,4 @@ use Rattle.search.specs.Hunt.{hunted}
 use Rattle.search.proofs.hunt.hunt.Given as goal
 
 abbrev pub invariant-loop-i : goal.invariant-loop-i
-invariant-loop-i l = hunted (16384 - l.-i) l.memory l.part l.near l.far ≡ hunted 16384 l.initial.memory l.part l.initial.near l.initial.far
+invariant-loop-i l = hunted (16384 - l._i) l.memory l.part l.near l.far ≡ hunted 16384 l.initial.memory l.part l.initial.near l.initial.far

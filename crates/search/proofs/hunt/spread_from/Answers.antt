@@ -9,8 +9,8 @@ returns-in-Done c = record { is = grind (arith, spreads); after = grind (arith, 
 pub returns-in-Met : goal.returns-in-Met
 returns-in-Met c =
     let e = sym c.loop-i.invariant ∙ spreading_met c.args.fuel c.loop-i.i c.loop-i.memory c.args.part c.args.side c.args.slot
-    c.loop-i.pointer c.in-Met.far (omega arith) (sym c.take-turn.ensures.is ∙ c.in-Met.is) in
-    record { is = sym (ap (λ (z : Spreading). z.spread) e); after = c.take-turn.ensures.after ∙ sym (ap (λ (z : Spreading). z.memory) e) }
+    c.loop-i.pointer c.in-Met.far (omega arith) (sym c.take_turn.ensures.is ∙ c.in-Met.is) in
+    record { is = sym (ap (λ (z : Spreading). z.spread) e); after = c.take_turn.ensures.after ∙ sym (ap (λ (z : Spreading). z.memory) e) }
 
 pub loop-i-preserved : goal.loop-i-preserved
 loop-i-preserved c = grind (arith, spreads)

@@ -7,8 +7,8 @@ pub loop-i-init : goal.loop-i-init
 unfolding gathers
 loop-i-init c = (grind arith, omega arith)
 
-pub returns-in-default : goal.returns-in-default
-returns-in-default c = record { is = grind (arith, steps); below = grind arith; after = grind (arith, steps) }
+pub returns-in_default : goal.returns-in_default
+returns-in_default c = record { is = grind (arith, steps); below = grind arith; after = grind (arith, steps) }
 
 pub loop-i-preserved : goal.loop-i-preserved
 loop-i-preserved c = (grind (arith, steps), grind arith)

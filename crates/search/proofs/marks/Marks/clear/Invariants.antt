@@ -3,4 +3,4 @@ use Rattle.search.specs.Marks.{cleared}
 use Rattle.search.proofs.marks.Marks.clear.Given as goal
 
 abbrev pub invariant-loop-i : goal.invariant-loop-i
-invariant-loop-i l = cleared (128 - l.-i) l.memory l.self.column l.word ≡ cleared 128 l.initial.memory l.self.column 0
+invariant-loop-i l = cleared (128 - l._i) l.memory l.self.column l.word ≡ cleared 128 l.initial.memory l.self.column 0

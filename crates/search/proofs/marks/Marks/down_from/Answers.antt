@@ -12,12 +12,12 @@ pub returns-then-place-lt64 : goal.returns-then-place-lt64
 unfolding down_from
 returns-then-place-lt64 c = record { is = grind (arith, nat_tests); below = tt }
 
-pub returns-in-default-word-down : goal.returns-in-default-word-down
+pub returns-in_default-word_down : goal.returns-in_default-word_down
 unfolding down_from
-returns-in-default-word-down c = record { is = grind (arith, nat_tests); below = tt }
+returns-in_default-word_down c = record { is = grind (arith, nat_tests); below = tt }
 
 pub returns : goal.returns
 unfolding down_from
 returns c =
-    let h = c.in-Some-word-down.ensures.below in
-    record { is = grind (arith, nat_tests); below = within_more ((c.in-Some-word-down.word * 64 + 63) / 64 * 64 + 64) 8192 c.sink-2.result (omega arith) c.sink-2.ensures.below }
+    let h = c.in-Some-word_down.ensures.below in
+    record { is = grind (arith, nat_tests); below = within_more ((c.in-Some-word_down.word * 64 + 63) / 64 * 64 + 64) 8192 c.sink-2.result (omega arith) c.sink-2.ensures.below }

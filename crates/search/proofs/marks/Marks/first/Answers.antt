@@ -5,4 +5,4 @@ use Rattle.search.proofs.marks.Marks.first.Goals as goal
 
 pub returns : goal.returns
 unfolding first_mark
-returns c = record { is = grind (arith, nat_tests); below = c.up-from.ensures.below }
+returns c = record { is = grind (arith, nat_tests); below = c.up_from.ensures.below }

@@ -9,4 +9,4 @@ returns-then-place-ge-CARDS c = record { is = grind (arith, nat_tests); below = 
 
 pub returns : goal.returns
 unfolding next_up
-returns c = record { is = grind (arith, nat_tests); below = c.up-from.ensures.below }
+returns c = record { is = grind (arith, nat_tests); below = c.up_from.ensures.below }

@@ -12,5 +12,5 @@ pub returns : goal.returns
 unfolding rise
 returns c =
     let h : c.args.i % 64 < 64 = omega arith in
-    let l = trailing_first c.get.result (c.args.i % 64) h c.get.type-inv c.if-rest-eq0.false in
+    let l = trailing_first c.get.result (c.args.i % 64) h c.get.type_inv c.if-rest-eq0.false in
     record { is = grind (arith, nat_tests); below = omega arith }

@@ -12,12 +12,12 @@ pub returns-in-Some : goal.returns-in-Some
 unfolding up_from
 returns-in-Some c = record { is = grind (arith, nat_tests); below = omega (arith, c.in-Some.ensures.below) }
 
-pub returns-in-default-word-up : goal.returns-in-default-word-up
+pub returns-in_default-word_up : goal.returns-in_default-word_up
 unfolding up_from
-returns-in-default-word-up c = record { is = grind (arith, nat_tests); below = tt }
+returns-in_default-word_up c = record { is = grind (arith, nat_tests); below = tt }
 
 pub returns : goal.returns
 unfolding up_from
 returns c =
-    let h = c.in-Some-word-up.ensures.below in
-    record { is = grind (arith, nat_tests); below = within_more ((c.in-Some-word-up.word * 64) / 64 * 64 + 64) 8192 c.rise-2.result (omega arith) c.rise-2.ensures.below }
+    let h = c.in-Some-word_up.ensures.below in
+    record { is = grind (arith, nat_tests); below = within_more ((c.in-Some-word_up.word * 64) / 64 * 64 + 64) 8192 c.rise-2.result (omega arith) c.rise-2.ensures.below }
