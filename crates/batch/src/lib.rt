@@ -1,5 +1,6 @@
 // Several links said at once, and a row made anew by a rule, over the keeper of a board.
 #![tactic(auto)]
+
 mod anew_laws;
 mod arranging;
 mod check_laws;

@@ -1,5 +1,6 @@
 // Keeps a board by a file of sayings.
 #![tactic(auto)]
+
 mod sayings;
 
 use anyhow::anyhow;

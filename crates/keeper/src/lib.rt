@@ -1,5 +1,6 @@
 // The keeper of a board: what it is told and what it answers, what is promised of it, and what is proved of the promise.
 #![tactic(auto)]
+
 mod event;
 mod layout;
 mod linking;

@@ -1,5 +1,6 @@
 // The keeper, tried out on memory of the heap.
 #![tactic(auto)]
+
 #[cfg(test)]
 mod cases;
 #[cfg(test)]

@@ -1,6 +1,7 @@
 // Links between slots in lent memory: a table in the order in which they came, with chains through it by the slot a link comes out of, by the slot it
 // goes into, and by both.
 #![tactic(auto)]
+
 mod building;
 mod chain;
 mod entries;

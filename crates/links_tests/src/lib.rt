@@ -1,5 +1,6 @@
 // The table of links, tried out on memory of the heap.
 #![tactic(auto)]
+
 #[cfg(test)]
 mod tests {
     use links::{

@@ -1,5 +1,6 @@
 // What stands between two cards and is touched by a link: looked for from both ends in turn, settled, or shown as a way that goes round.
 #![tactic(auto)]
+
 mod hunt;
 mod layout;
 mod marks;

@@ -1,5 +1,6 @@
 // Says whether a row of cards keeps links.
 #![tactic(auto)]
+
 mod input;
 
 ghost use Rattle.row.specs.Kept.{Names};
