@@ -67,8 +67,11 @@ module _ (m : List ℕ) (S : Stands m) (T : Tabled m) (f : Summed m fore) (h : S
   }
 
 -- so zeros do
+room_at : (n : ℕ) → via.base + via.size ≤ n → via.base + via.size ≤ length {A = ℕ} (replicate n 0)
+room_at n h = omega (arith, length-replicate {A = ℕ} n 0)
+
 room_there : via.base + via.size ≤ length {A = ℕ} (replicate 524288 0)
-room_there = omega (arith, length-replicate {A = ℕ} 524288 0)
+room_there = room_at 524288 (omega arith)
 
 pub at_start : Means (replicate 524288 0) empty
 at_start =

@@ -27,9 +27,9 @@ loop-i-preserved c =
     let l = c.loop-i in
     let h = heard l.turn c.args.batch.now in
     elim c.match-step.branch [
-      | in-Tells w ↦ rw w.shown_is
+      | in-Tells w ↦ rw w.shown-is
           (sym (plays_tells l._i l.memory h l.out _ _ _ l.shown (omega arith) c.step.ensures.says _ _ w.in-Tells.is) ∙ l.invariant)
-      | in-Shows w ↦ rw w.shown_is
+      | in-Shows w ↦ rw w.shown-is
           (sym (plays_shows l._i l.memory h l.out _ _ _ l.shown (omega arith) c.step.ensures.says _ w.in-Shows.is) ∙ l.invariant)
     ]
 

@@ -22,9 +22,9 @@ pub loop-i-preserved : goal.loop-i-preserved
 loop-i-preserved c =
     let l = c.loop-i in
     elim c.match-step.branch [
-      | in-Tells w ↦ rw w.shown_is
+      | in-Tells w ↦ rw w.shown-is
           (sym (plays_tells l._i l.memory l.event l.out _ _ _ l.shown (omega arith) c.step.ensures.says _ _ w.in-Tells.is) ∙ l.invariant)
-      | in-Shows w ↦ rw w.shown_is
+      | in-Shows w ↦ rw w.shown-is
           (sym (plays_shows l._i l.memory l.event l.out _ _ _ l.shown (omega arith) c.step.ensures.says _ w.in-Shows.is) ∙ l.invariant)
     ]
 
