@@ -2,7 +2,8 @@
 use crate::cases::{done, link, refused, round, unlink};
 use crate::player::Player;
 use row::{Command, Link};
-use std::test::*;
+use std::process::Abort;
+use std::test::Fail;
 
 // How many links there may be.
 const LINKS: u64 = 65536;
@@ -21,16 +22,16 @@ fn nth_link(n: u64) -> Link {
     }
 }
 
-fn fill(player: &mut Player) -> Result<(), Fail> {
+fn fill(rt: &impl Abort, player: &mut Player) -> Result<(), Fail> {
     for n in 0..LINKS {
-        player.play(done(Command::Link(nth_link(n))))?;
+        player.play(rt, done(Command::Link(nth_link(n))))?;
     }
     Ok(())
 }
 
-fn empty(player: &mut Player) -> Result<(), Fail> {
+fn empty(rt: &impl Abort, player: &mut Player) -> Result<(), Fail> {
     for n in 0..LINKS {
-        player.play(done(Command::Unlink(nth_link(n))))?;
+        player.play(rt, done(Command::Unlink(nth_link(n))))?;
     }
     Ok(())
 }
@@ -38,30 +39,39 @@ fn empty(player: &mut Player) -> Result<(), Fail> {
 #[test]
 fn all_links(rt: HostRuntime) -> Result<(), Fail> {
     let mut player = Player::with_cards(&rt, 8192)?;
-    fill(&mut player)?;
-    player.play_all(&[
-        refused(link(100, 200), 7),
-        refused(link(8191, 0), 7),
-        refused(link(0, 1), 4),
-        round(link(1, 0), &[0, 1]),
-    ])?;
-    empty(&mut player)?;
-    player.play_all(&[
-        refused(unlink(0, 1), 3),
-        done(link(1, 0)),
-        done(link(8191, 1)),
-    ])
+    fill(&rt, &mut player)?;
+    player.play_all(
+        &rt,
+        &[
+            refused(link(100, 200), 7),
+            refused(link(8191, 0), 7),
+            refused(link(0, 1), 4),
+            round(link(1, 0), &[0, 1]),
+        ],
+    )?;
+    empty(&rt, &mut player)?;
+    player.play_all(
+        &rt,
+        &[
+            refused(unlink(0, 1), 3),
+            done(link(1, 0)),
+            done(link(8191, 1)),
+        ],
+    )
 }
 
 #[test]
 fn all_cards(rt: HostRuntime) -> Result<(), Fail> {
     let mut player = Player::with_cards(&rt, 8192)?;
-    player.play_all(&[
-        refused(Command::Comes(8192), 7),
-        refused(Command::Comes(8191), 4),
-        refused(Command::Goes(8192), 3),
-        done(Command::Goes(0)),
-        done(Command::Comes(8192)),
-        refused(Command::Comes(0), 7),
-    ])
+    player.play_all(
+        &rt,
+        &[
+            refused(Command::Comes(8192), 7),
+            refused(Command::Comes(8191), 4),
+            refused(Command::Goes(8192), 3),
+            done(Command::Goes(0)),
+            done(Command::Comes(8192)),
+            refused(Command::Comes(0), 7),
+        ],
+    )
 }

@@ -4,7 +4,7 @@ use crate::player::Player;
 use keeper::{Act, Event, MEMORY, OUTPUT, Reason, step};
 use row::{Command, Refusal};
 use std::process::Abort;
-use std::test::*;
+use std::test::Fail;
 
 // Whether all are sevens.
 fn are_sevens(numbers: &[u64]) -> bool {
@@ -42,25 +42,32 @@ fn is_same(act: Act, other: Act) -> bool {
 }
 
 // Goes one step, and sees that the answer is what is due, and that nothing changes where it says that the keeper is idle or busy.
-fn check_step(rt: &HostRuntime, player: &mut Player, event: Event, due: Act) -> Result<(), Fail> {
+fn check_step(
+    rt: &(impl Abort + AllocGlobal),
+    player: &mut Player,
+    number: usize,
+    event: Event,
+    due: Act,
+) -> Result<(), Fail> {
     let before = player.memory().to_vec(rt.alloc())?;
-    let act = player.step(event)?;
-    assert!(is_same(act, due));
-    match act {
-        Act::Refused(Reason::Idle | Reason::Busy) => {
-            assert!(before.as_slice() == player.memory());
-            Ok(())
-        },
-        _ => Ok(()),
+    let act = player.step(rt, event);
+    assert!(rt; is_same(act, due), "step {number}");
+    if let Act::Refused(Reason::Idle | Reason::Busy) = act {
+        assert!(rt; before.as_slice() == player.memory(), "step {number}");
     }
+    Ok(())
 }
 
 // Goes one step after the other; the row is told right at their end.
-fn check_steps(rt: &HostRuntime, player: &mut Player, steps: &[(Event, Act)]) -> Result<(), Fail> {
+fn check_steps(
+    rt: &(impl Abort + AllocGlobal),
+    player: &mut Player,
+    steps: &[(Event, Act)],
+) -> Result<(), Fail> {
     for (i, (event, due)) in steps.iter().enumerate() {
-        check_step(rt, player, *event, *due).note(format_args!("step {i}"))?;
+        check_step(rt, player, i, *event, *due)?;
     }
-    assert!(player.is_told_right());
+    assert!(rt; player.is_told_right());
     Ok(())
 }
 
@@ -114,21 +121,24 @@ fn busy_showing(rt: HostRuntime) -> Result<(), Fail> {
 #[test]
 fn not_there_or_there_already(rt: HostRuntime) -> Result<(), Fail> {
     let mut player = Player::with_cards(&rt, 2)?;
-    player.play_all(&[
-        refused(Command::Goes(2), 3),
-        refused(link(0, 2), 3),
-        refused(link(2, 0), 3),
-        refused(link(2, 2), 3),
-        refused(unlink(0, 1), 3),
-        refused(unlink(2, 0), 3),
-        refused(Command::Places(0, 2), 3),
-        refused(Command::Places(2, 0), 3),
-        refused(Command::Comes(1), 4),
-        round(link(1, 1), &[1]),
-        Case {
-            command: Command::Places(1, 0),
-            refused: None,
-            shown: &[1, 0],
-        },
-    ])
+    player.play_all(
+        &rt,
+        &[
+            refused(Command::Goes(2), 3),
+            refused(link(0, 2), 3),
+            refused(link(2, 0), 3),
+            refused(link(2, 2), 3),
+            refused(unlink(0, 1), 3),
+            refused(unlink(2, 0), 3),
+            refused(Command::Places(0, 2), 3),
+            refused(Command::Places(2, 0), 3),
+            refused(Command::Comes(1), 4),
+            round(link(1, 1), &[1]),
+            Case {
+                command: Command::Places(1, 0),
+                refused: None,
+                shown: &[1, 0],
+            },
+        ],
+    )
 }

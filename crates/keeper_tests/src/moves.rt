@@ -2,7 +2,8 @@
 use crate::cases::{done, link, refused, round, unlink};
 use crate::player::Player;
 use row::Command;
-use std::test::*;
+use std::process::Abort;
+use std::test::Fail;
 
 // Whether cards stand in the row as they came, but for two that changed places.
 fn have_changed_places(row: &[u64], one: u64, other: u64) -> bool {
@@ -35,9 +36,9 @@ fn are_from(cards: &[u64], first: u64) -> bool {
 }
 
 // Makes a link from each of these cards to the next one.
-fn chain(player: &mut Player, first: u64, last: u64) -> Result<(), Fail> {
+fn chain(rt: &impl Abort, player: &mut Player, first: u64, last: u64) -> Result<(), Fail> {
     for card in first..last {
-        player.play(done(link(card, card + 1)))?;
+        player.play(rt, done(link(card, card + 1)))?;
     }
     Ok(())
 }
@@ -45,42 +46,48 @@ fn chain(player: &mut Player, first: u64, last: u64) -> Result<(), Fail> {
 #[test]
 fn said_twice_and_taken_back(rt: HostRuntime) -> Result<(), Fail> {
     let mut player = Player::with_cards(&rt, 3)?;
-    player.play_all(&[
-        done(link(2, 0)),
-        refused(link(2, 0), 4),
-        done(unlink(2, 0)),
-        refused(unlink(2, 0), 3),
-        done(link(2, 0)),
-        round(link(0, 2), &[2, 0]),
-    ])?;
-    assert!(rt; player.row() == &[2, 1, 0]);
+    player.play_all(
+        &rt,
+        &[
+            done(link(2, 0)),
+            refused(link(2, 0), 4),
+            done(unlink(2, 0)),
+            refused(unlink(2, 0), 3),
+            done(link(2, 0)),
+            round(link(0, 2), &[2, 0]),
+        ],
+    )?;
+    assert!(rt; player.row() == [2, 1, 0].as_slice());
     Ok(())
 }
 
 #[test]
 fn comes_again_without_links(rt: HostRuntime) -> Result<(), Fail> {
     let mut player = Player::with_cards(&rt, 3)?;
-    player.play_all(&[
-        done(link(0, 1)),
-        done(link(1, 2)),
-        round(link(2, 0), &[0, 1, 2]),
-        done(Command::Goes(1)),
-        done(Command::Comes(1)),
-        refused(unlink(0, 1), 3),
-        done(link(2, 0)),
-        done(link(1, 2)),
-        round(link(0, 1), &[1, 2, 0]),
-    ])?;
-    assert!(rt; player.row() == &[1, 2, 0]);
+    player.play_all(
+        &rt,
+        &[
+            done(link(0, 1)),
+            done(link(1, 2)),
+            round(link(2, 0), &[0, 1, 2]),
+            done(Command::Goes(1)),
+            done(Command::Comes(1)),
+            refused(unlink(0, 1), 3),
+            done(link(2, 0)),
+            done(link(1, 2)),
+            round(link(0, 1), &[1, 2, 0]),
+        ],
+    )?;
+    assert!(rt; player.row() == [1, 2, 0].as_slice());
     Ok(())
 }
 
 #[test]
 fn others_between_stay(rt: HostRuntime) -> Result<(), Fail> {
     let mut player = Player::with_cards(&rt, 100)?;
-    chain(&mut player, 0, 9)?;
-    chain(&mut player, 91, 99)?;
-    player.play(done(link(90, 10)))?;
+    chain(&rt, &mut player, 0, 9)?;
+    chain(&rt, &mut player, 91, 99)?;
+    player.play(&rt, done(link(90, 10)))?;
     assert!(rt; player.told() == 1 && have_changed_places(player.row(), 90, 10));
     Ok(())
 }
@@ -88,7 +95,7 @@ fn others_between_stay(rt: HostRuntime) -> Result<(), Fail> {
 #[test]
 fn first_and_last_change_places(rt: HostRuntime) -> Result<(), Fail> {
     let mut player = Player::with_cards(&rt, 8192)?;
-    player.play(done(link(8191, 0)))?;
+    player.play(&rt, done(link(8191, 0)))?;
     assert!(rt; player.told() == 2 && have_changed_places(player.row(), 8191, 0));
     Ok(())
 }
@@ -96,9 +103,9 @@ fn first_and_last_change_places(rt: HostRuntime) -> Result<(), Fail> {
 #[test]
 fn round_through_all(rt: HostRuntime) -> Result<(), Fail> {
     let mut player = Player::with_cards(&rt, 8192)?;
-    chain(&mut player, 0, 8191)?;
+    chain(&rt, &mut player, 0, 8191)?;
     let way = player.row().to_vec(rt.alloc())?;
-    player.play(round(link(8191, 0), way.as_slice()))?;
+    player.play(&rt, round(link(8191, 0), way.as_slice()))?;
     assert!(rt; are_from(way.as_slice(), 0));
     Ok(())
 }
@@ -106,9 +113,9 @@ fn round_through_all(rt: HostRuntime) -> Result<(), Fail> {
 #[test]
 fn halves_change_places(rt: HostRuntime) -> Result<(), Fail> {
     let mut player = Player::with_cards(&rt, 8192)?;
-    chain(&mut player, 0, 4095)?;
-    chain(&mut player, 4096, 8191)?;
-    player.play(done(link(8191, 0)))?;
+    chain(&rt, &mut player, 0, 4095)?;
+    chain(&rt, &mut player, 4096, 8191)?;
+    player.play(&rt, done(link(8191, 0)))?;
     let row = player.row();
     assert!(rt; player.told() == 2 && row.len() == 8192);
     assert!(rt; are_from(&row[0..4096], 4096) && are_from(&row[4096..8192], 0));

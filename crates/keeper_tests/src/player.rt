@@ -2,7 +2,8 @@
 use crate::cases::{Case, done};
 use keeper::{Act, Event, MEMORY, OUTPUT, step};
 use row::{Command, len, tell};
-use std::test::*;
+use std::process::Abort;
+use std::test::Fail;
 
 // The lent memory and output; the row as it was told, and room for the row as it stands; of the last command, how many times it told of the row and
 // how many numbers it showed.
@@ -17,7 +18,7 @@ pub(crate) struct Player {
 }
 
 impl Player {
-    pub(crate) fn new(rt: &HostRuntime) -> Result<Player, Fail> {
+    pub(crate) fn new(rt: &impl AllocGlobal) -> Result<Player, Fail> {
         Ok(Player {
             memory: vec![in rt.alloc(); 0u64; MEMORY]?,
             out: vec![in rt.alloc(); 0u64; OUTPUT]?,
@@ -29,35 +30,34 @@ impl Player {
     }
 
     // A player with the cards 0, 1, 2 and so on in the row, `n` of them.
-    pub(crate) fn with_cards(rt: &HostRuntime, n: u64) -> Result<Player, Fail> {
+    pub(crate) fn with_cards(rt: &(impl Abort + AllocGlobal), n: u64) -> Result<Player, Fail> {
         let mut player = Player::new(rt)?;
         for card in 0..n {
-            player.play(done(Command::Comes(card)))?;
+            player.play(rt, done(Command::Comes(card)))?;
         }
         Ok(player)
     }
 
     // One step of the keeper. What it tells is taken over into the row.
-    pub(crate) fn step(&mut self, event: Event) -> Result<Act, Fail> {
+    pub(crate) fn step(&mut self, rt: &impl Abort, event: Event) -> Act {
         let act = step(self.memory.as_mut_slice(), event, self.out.as_mut_slice());
         match act {
-            Act::Tells(at, n) => self.hear(at, n)?,
+            Act::Tells(at, n) => self.hear(rt, at, n),
             Act::Shows(n) => self.shown = n,
             _ => {}
         }
-        Ok(act)
+        act
     }
 
     // Takes what is told over into the row.
-    fn hear(&mut self, at: u64, n: u64) -> Result<(), Fail> {
+    fn hear(&mut self, rt: &impl Abort, at: u64, n: u64) {
         let from = at as usize;
         let count = n as usize;
-        assert!(from <= self.row.len() && count <= self.row.len() - from);
-        assert!(count <= self.out.len());
+        assert!(rt; from <= self.row.len() && count <= self.row.len() - from);
+        assert!(rt; count <= self.out.len());
         let part = &mut self.row.as_mut_slice()[from..from + count];
         part.copy_from_slice(&self.out.as_slice()[0..count]);
         self.told = self.told.saturating_add(1);
-        Ok(())
     }
 
     // Takes a card out of the row.
@@ -90,10 +90,10 @@ impl Player {
     }
 
     // Says a command, and goes on up to its end; the number of the reason, if it's refused.
-    fn say(&mut self, command: Command) -> Result<Option<u64>, Fail> {
+    fn say(&mut self, rt: &impl Abort, command: Command) -> Result<Option<u64>, Fail> {
         let mut event = Event::Said(command);
         for _i in 0..4u8 {
-            match self.step(event)? {
+            match self.step(rt, event) {
                 Act::Done => {
                     self.follow(command)?;
                     return Ok(None);
@@ -106,20 +106,19 @@ impl Player {
     }
 
     // Says a command, and sees that what comes of it is what is to come, and that the row was told right.
-    pub(crate) fn play(&mut self, case: Case) -> Result<(), Fail> {
-        self.told = 0;
-        self.shown = 0;
-        assert_eq!(self.say(case.command)?, case.refused);
-        assert!(self.shown == case.shown.len() as u64);
-        assert!(self.out.as_slice().starts_with(case.shown));
-        assert!(self.is_told_right());
-        Ok(())
+    pub(crate) fn play(&mut self, rt: &impl Abort, case: Case) -> Result<(), Fail> {
+        self.play_all(rt, &[case])
     }
 
     // Plays one after the other.
-    pub(crate) fn play_all(&mut self, cases: &[Case]) -> Result<(), Fail> {
+    pub(crate) fn play_all(&mut self, rt: &impl Abort, cases: &[Case]) -> Result<(), Fail> {
         for (i, case) in cases.iter().enumerate() {
-            self.play(*case).note(format_args!("case {i}"))?;
+            self.told = 0;
+            self.shown = 0;
+            assert_eq!(rt; self.say(rt, case.command)?, case.refused, "case {i}");
+            assert!(rt; self.shown == case.shown.len() as u64, "case {i}");
+            assert!(rt; self.out.as_slice().starts_with(case.shown), "case {i}");
+            assert!(rt; self.is_told_right(), "case {i}");
         }
         Ok(())
     }
