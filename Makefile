@@ -2,8 +2,8 @@
 
 # Proves and builds the board program, and plays a sample of sayings.
 run:
-	rt check board
-	target/bin/board crates/board/stdin
+	cd crates/board && rt run </dev/null
+	crates/board/out/board crates/board/stdin
 
 # The gate.
 test:

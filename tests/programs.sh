@@ -1,7 +1,11 @@
 #!/usr/bin/env bash
-# The programs on bad input and good: what they print, what they say on standard error, and their status. Needs target/bin, as `rt check` leaves it.
+# The programs on bad input and good: what they print, what they say on standard error, and their status. They are proved and built first.
 set -u
 cd "$(dirname "$0")/.." || exit 1
+for program in board verify; do
+  (cd crates/$program && rt run </dev/null >/dev/null 2>&1)
+  [ -x crates/$program/out/$program ] || { echo "programs: $program isn't built: run 'rt run' in crates/$program"; echo '0 passed, 1 failed'; exit 1; }
+done
 passed=0
 failed=0
 out=$(mktemp)
@@ -23,7 +27,7 @@ run() {
   program=$1
   bytes=$2
   shift 2
-  printf "$bytes" | target/bin/"$program" "$@" >"$out" 2>"$err"
+  printf "$bytes" | crates/"$program"/out/"$program" "$@" >"$out" 2>"$err"
   status=$?
   [ -s "$err" ] || echo none >"$err"
 }
