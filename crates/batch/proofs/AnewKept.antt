@@ -1,15 +1,13 @@
 -- A row made anew is the one by the rule, and all of it is told.
-use Rattle.std.proofs.Common.{◌≡◌, ℕ, ◌≤◌, true, List, [], length, drop, Some, None, sym, refl, ap, ◌∙◌, subst, arith}
+use Rattle.std.proofs.Common.{◌≡◌, ℕ, true, List, length, sym, refl, ap, ◌∙◌, arith}
 use Rattle.std.proofs.lemmas.List.{drop_all}
 use Rattle.std.proofs.lemmas.List.Sorted.{length_permutation}
-use Rattle.row.specs.declared.board.Refusal.{Refusal}
 use Rattle.row.specs.Board.{Board}
 use Rattle.row.specs.Commands.{told_rows}
 use Rattle.row.specs.Layout.{count}
 use Rattle.row.proofs.Climbs.{fine_parts}
 use Rattle.row.proofs.Present.{length_cards}
 use Rattle.keeper.proofs.Knowing.{row_is}
-use Rattle.keeper.proofs.Parts.{Anew}
 use Rattle.keeper.proofs.ToldRuns.{from_first}
 use Rattle.batch.specs.Engine.{anew}
 use Rattle.batch.specs.Promise.{small_saying, Done, Refused}

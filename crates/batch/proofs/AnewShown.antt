@@ -9,7 +9,7 @@ use Rattle.row.specs.Lists.{every, distinct}
 use Rattle.row.specs.Board.{Board}
 use Rattle.row.specs.Columns.{cell}
 use Rattle.row.specs.Layout.{ids, slots, count}
-use Rattle.row.specs.Meaning.{row_of, cards, used}
+use Rattle.row.specs.Meaning.{row_of, used}
 use Rattle.row.specs.Renaming.{renamed, Naming}
 use Rattle.row.proofs.Filters.{every_more}
 use Rattle.row.proofs.Present.{apart}

@@ -14,7 +14,6 @@ use Rattle.keeper.specs.Playing.{fronted}
 use Rattle.row.specs.declared.board.Link.{Link}
 use Rattle.batch.specs.declared.event.Event.{Event as OwnEvent}
 use Rattle.batch.specs.Engine.{Heard, heard}
-use Rattle.batch.specs.Promise.{small_heard}
 use Rattle.batch.specs.Own.{when_idle, answer, guarded, hindrance, Taken, Untaken, StepBy, StepSays}
 
 module _ (m out : List ℕ) where

@@ -15,18 +15,16 @@ use Rattle.links.specs.Layout.{live}
 use Rattle.links.specs.Entries.{joins as same_link}
 use Rattle.links.specs.Meaning.{edges, once}
 use Rattle.links.proofs.Operating.{counts}
-use Rattle.search.specs.Meaning.{Ready, Parted, Trailed}
+use Rattle.search.specs.Meaning.{Ready}
 use Rattle.search.specs.Hunt.{meeting}
 use Rattle.search.specs.HuntLaws.{Found}
-use Rattle.search.specs.Settle.{forgotten}
 use Rattle.search.proofs.Starting.{meets}
 use Rattle.keeper.specs.Promise.{small_command}
 use Rattle.keeper.specs.Answers.{pending}
 use Rattle.keeper.specs.Meaning.{card_board, Means}
-use Rattle.keeper.specs.Linking.{slots_found}
 use Rattle.keeper.proofs.Knowing.{names, fine_cards}
 use Rattle.keeper.proofs.TwoCards.{Seated, has_row, seated, slots_there, leads_is, linked_is}
-use Rattle.keeper.proofs.Forward.{linked_here, forward, no_round, put_means}
+use Rattle.keeper.proofs.Forward.{forward, no_round, put_means}
 use Rattle.keeper.proofs.Moving.{new, is_firm, keeps_all, goes_back, moved_means}
 use Rattle.keeper.proofs.Backward.{forgotten_ready, forgotten_edges, forgotten_tally, forgotten_board, goes}
 use Rattle.keeper.proofs.Opened.{open_keeps}

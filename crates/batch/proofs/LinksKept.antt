@@ -1,18 +1,17 @@
 -- Several links said at once are done or refused rightly.
-use Rattle.std.proofs.Common.{◌≡◌, ℕ, ◌+◌, ◌-◌, ◌<◌, ◌≤◌, min, true, false, not, leb, ◌≢◌, List, [], ◌∷◌, ◌++◌, length, take, Some, None, sym, refl, ap, ◌∙◌, subst, inl, inr, arith, length-append}
+use Rattle.std.proofs.Common.{◌≡◌, ℕ, ◌+◌, ◌<◌, ◌≤◌, true, false, not, leb, ◌≢◌, List, ◌++◌, length, take, Some, None, sym, refl, ap, ◌∙◌, subst, inl, inr, arith, length-append}
 use Rattle.std.proofs.lemmas.Bool.{cases_Bool, cases_lt, both_ways, le-leb, lt-leb, leb-true}
 use Rattle.row.specs.declared.board.Link.{Link}
 use Rattle.row.specs.declared.board.Refusal.{Refusal}
 use Rattle.row.specs.declared.board.Refusal.TheVariants.{Missing, Exists, Cycle, Full}
 use Rattle.row.specs.Lists.{every}
 use Rattle.row.specs.Board.{Board, keeps, fine}
-use Rattle.row.specs.Commands.{number, told_rows}
+use Rattle.row.specs.Commands.{told_rows}
 use Rattle.row.proofs.Climbs.{fine_parts}
 use Rattle.links.specs.Layout.{live}
 use Rattle.links.proofs.Operating.{counts}
-use Rattle.keeper.specs.declared.event.Act.TheVariants.{Done as EndsDone}
-use Rattle.keeper.specs.Engine.{Ran, ran}
-use Rattle.keeper.specs.Answers.{Answer, quiet, ends, refuses, leaves_pending}
+use Rattle.keeper.specs.Engine.{Ran}
+use Rattle.keeper.specs.Answers.{Answer, quiet, refuses, leaves_pending}
 use Rattle.keeper.specs.Sister.{within}
 use Rattle.keeper.specs.Meaning.{Means}
 use Rattle.keeper.proofs.Knowing.{names}
@@ -21,14 +20,14 @@ use Rattle.keeper.proofs.Carrying.{noted}
 use Rattle.keeper.proofs.Noting.{settles}
 use Rattle.keeper.proofs.ToldRuns.{from_first}
 use Rattle.batch.specs.declared.checking.Span.{Span}
-use Rattle.batch.specs.Several.{all_there, with_links, said_before, closes, several_refusal, Becomes, first_named, past_named, circle}
+use Rattle.batch.specs.Several.{all_there, with_links, said_before, closes, several_refusal, Becomes, past_named}
 use Rattle.batch.specs.SeveralLaws.{Between}
 use Rattle.batch.specs.Checking.{span}
 use Rattle.batch.specs.CheckLaws.{Names}
 use Rattle.batch.specs.Joining.{Tried, tried}
 use Rattle.batch.specs.JoinLaws.{AllIn, Stopped}
 use Rattle.batch.specs.UndoLaws.{put_aside, Covers}
-use Rattle.batch.specs.Saying.{told_span, undone, brought, closed, by_trial, rearranged, said_several}
+use Rattle.batch.specs.Saying.{undone, brought, by_trial, rearranged, said_several}
 use Rattle.batch.specs.Engine.{several, run_of}
 use Rattle.batch.specs.Promise.{small_link, small_saying, Settled, Done, Refused}
 use Rattle.batch.specs.Own.{answer, own}

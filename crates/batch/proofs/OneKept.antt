@@ -1,5 +1,5 @@
 -- A command, and a row made anew, are done or refused rightly.
-use Rattle.std.proofs.Common.{◌≡◌, ℕ, ◌<◌, ◌≤◌, Bool, true, false, cond, not, ◌&&◌, leb, List, [], ◌∷◌, ◌++◌, length, take, drop, Some, None, sym, refl, ap, ◌∙◌, subst, inl, inr, arith, length-append}
+use Rattle.std.proofs.Common.{◌≡◌, ℕ, ◌≤◌, Bool, true, false, cond, ◌&&◌, leb, List, [], ◌∷◌, length, Some, None, arith, length-append}
 use Rattle.std.proofs.lemmas.Bool.{leb-false}
 use Rattle.std.proofs.lemmas.Bool.Decides.{nat_tests}
 use Rattle.row.specs.declared.board.Link.{Link}
@@ -9,13 +9,11 @@ use Rattle.row.specs.declared.board.Refusal.TheVariants.{Missing, Exists, Cycle,
 use Rattle.row.specs.Lists.{has, filter}
 use Rattle.row.specs.Board.{Board, ◌⟶◌, linked, leads}
 use Rattle.row.specs.Commands.{refusal, links_after}
-use Rattle.keeper.specs.Engine.{Ran}
 use Rattle.keeper.specs.Promise.{all_small, Refused as KeeperRefused, small_command}
 use Rattle.keeper.specs.Sister.{DoneFirm}
-use Rattle.keeper.specs.Own.{own as keeper_own}
 use Rattle.keeper.proofs.Wholly.{kept}
 use Rattle.batch.specs.Engine.{one}
-use Rattle.batch.specs.Promise.{small_saying, Done, Refused}
+use Rattle.batch.specs.Promise.{Done, Refused}
 use Rattle.batch.specs.Own.{own}
 use Rattle.batch.proofs.Simulation.{Keeps, StepKept}
 use Rattle.batch.proofs.Runs.{run_command}

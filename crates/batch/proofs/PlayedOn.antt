@@ -1,5 +1,5 @@
 -- A step of the loop that plays a saying, against its model.
-use Rattle.std.proofs.Common.{◌≡◌, ℕ, ◌+◌, ◌-◌, ◌<◌, ◌≤◌, Bool, true, false, List, Some, None, Option, refl, ap, ◌∙◌}
+use Rattle.std.proofs.Common.{◌≡◌, ℕ, ◌+◌, ◌-◌, ◌<◌, ◌≤◌, Bool, true, false, List, Some, None, refl, ap, ◌∙◌}
 use Rattle.keeper.specs.declared.event.Reason.{Reason}
 use Rattle.keeper.specs.declared.event.Reason.TheVariants.{Busy}
 use Rattle.keeper.specs.declared.event.Act.{Act}
@@ -10,7 +10,7 @@ use Rattle.keeper.proofs.PlayedOn.{to, ending}
 use Rattle.batch.specs.Engine.{Heard, next}
 use Rattle.batch.specs.Own.{StepBy, StepSays}
 use Rattle.batch.specs.Playing.{stepped, plays}
-use Rattle.keeper.specs.Playing.{Stepped, Ending, by_act}
+use Rattle.keeper.specs.Playing.{Stepped, by_act}
 
 stepped_by : (b : Bool) (m : List ℕ) (h : Heard) (out : List ℕ) (r : Act) (m₁ out₁ : List ℕ) → step_fits m out ≡ b → StepBy b m h out r m₁ out₁ →
     stepped m h out ≡ to r m₁ out₁

@@ -1,5 +1,5 @@
 -- Runs on the engine of this crate: after its first answer a saying goes on as on the keeper's.
-use Rattle.std.proofs.Common.{◌≡◌, ℕ, zero, suc, true, leb, List, [], ◌∷◌, length, take, refl, ap, ◌∙◌, ap₂, inl, inr, arith}
+use Rattle.std.proofs.Common.{◌≡◌, ℕ, zero, suc, true, leb, List, [], ◌∷◌, length, refl, ap, ◌∙◌, inl, inr, arith}
 use Rattle.std.proofs.lemmas.List.{take_all}
 use Rattle.std.proofs.lemmas.Bool.{cases_Bool, eq-eqb}
 use Rattle.row.specs.declared.board.Command.{Command}
@@ -9,17 +9,16 @@ use Rattle.row.specs.Commands.{number, Told}
 use Rattle.search.specs.Meaning.{Ready}
 use Rattle.keeper.specs.declared.event.Event.TheVariants.{Said, Next}
 use Rattle.keeper.specs.declared.event.Act.TheVariants.{Shows, Done}
-use Rattle.keeper.specs.Engine.{Action, tells, shows, done, refused, action_of, Ran, ran, one_act, runs as keeper_runs, run_of as keeper_run_of}
+use Rattle.keeper.specs.Engine.{Action, tells, shows, done, refused, action_of, ran, one_act, runs as keeper_runs, run_of as keeper_run_of}
 use Rattle.keeper.specs.Answers.{Answer, quiet, ends, refuses, pending, leaves_pending}
-use Rattle.keeper.specs.Promise.{small_command}
 use Rattle.keeper.specs.Sized.{small_event, guarded as keeper_guarded}
 use Rattle.keeper.specs.Own.{own as keeper_own}
 use Rattle.keeper.proofs.Ends.{Go}
-use Rattle.keeper.proofs.Unroll.{steps_to, run_refused}
-use Rattle.keeper.proofs.Saying.{step_next, went_round, number_fits, step_of}
+use Rattle.keeper.proofs.Unroll.{run_refused}
+use Rattle.keeper.proofs.Saying.{step_next, went_round}
 use Rattle.keeper.proofs.Noting.{is_pending}
 use Rattle.keeper.proofs.ToldRuns.{from_first}
-use Rattle.batch.specs.Engine.{Saying, one, several, anew, said, next, runs, run_of}
+use Rattle.batch.specs.Engine.{Saying, one, said, next, runs, run_of}
 use Rattle.batch.specs.Promise.{small_saying, small_heard}
 use Rattle.batch.specs.Own.{when_idle, answer, guarded, own}
 

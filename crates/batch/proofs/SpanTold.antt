@@ -1,10 +1,10 @@
 -- A part of the row that a span names is told, and the memory then means the board that it meant before.
-use Rattle.std.proofs.Common.{◌≡◌, ℕ, ◌≤◌, true, List, [], length, sym, refl, ap, ◌∙◌, subst, ap₂, arith}
+use Rattle.std.proofs.Common.{◌≡◌, ℕ, ◌≤◌, true, List, [], length, sym, ap, ◌∙◌, subst, ap₂, arith}
 use Rattle.row.specs.Lists.{every}
 use Rattle.row.specs.Board.{Board}
 use Rattle.row.specs.Columns.{cell, written}
 use Rattle.row.specs.Commands.{Told, told_rows}
-use Rattle.row.specs.Layout.{tally, count}
+use Rattle.row.specs.Layout.{tally}
 use Rattle.row.specs.Meaning.{cards}
 use Rattle.row.proofs.Cells.{cell_same, cell_other, length_written}
 use Rattle.row.proofs.Depending.{depends}
@@ -19,7 +19,7 @@ use Rattle.keeper.proofs.Knowing.{row_is}
 use Rattle.keeper.proofs.Carrying.{Noted, noted, noted_on}
 use Rattle.keeper.proofs.Noting.{noted_ready, settles, is_pending}
 use Rattle.keeper.proofs.Parts.{Anew}
-use Rattle.keeper.proofs.ToldRuns.{from_first, ToldOut, told_run, went_more}
+use Rattle.keeper.proofs.ToldRuns.{from_first, told_run, went_more}
 use Rattle.batch.specs.declared.checking.Span.{Span}
 use Rattle.batch.specs.Saying.{noting, told_span}
 

@@ -7,7 +7,7 @@ use Rattle.row.specs.Lists.{distinct}
 use Rattle.row.specs.Board.{Board, fine}
 use Rattle.row.specs.Columns.{cell}
 use Rattle.row.specs.Layout.{ids, count}
-use Rattle.row.specs.Meaning.{row_of, cards, used}
+use Rattle.row.specs.Meaning.{row_of, used}
 use Rattle.row.specs.Renaming.{named}
 use Rattle.row.proofs.Present.{apart}
 use Rattle.row.proofs.Named.{cards_named}
@@ -15,7 +15,7 @@ use Rattle.links.specs.Meaning.{edges, once}
 use Rattle.search.specs.Meaning.{Ready}
 use Rattle.keeper.specs.Answers.{pending}
 use Rattle.keeper.specs.Meaning.{card_board}
-use Rattle.keeper.proofs.Knowing.{naming, row_is, fine_cards}
+use Rattle.keeper.proofs.Knowing.{naming, fine_cards}
 use Rattle.keeper.proofs.CardsGo.{all_named}
 use Rattle.batch.specs.Rule.{anew, Ruled, sorted}
 use Rattle.batch.specs.Seating.{reseated}

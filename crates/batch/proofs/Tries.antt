@@ -1,5 +1,5 @@
 -- Links that are tried one after the other: all are in, with the row that they make, or one goes round, and those before it are in.
-use Rattle.std.proofs.Common.{◌≡◌, ℕ, zero, suc, ◌+◌, ◌≤◌, true, false, ◌&&◌, ◌||◌, eqb, List, [], ◌∷◌, ◌++◌, length, take, Some, None, sym, refl, ap, ◌∙◌, subst, ap₂, inl, inr, append_assoc, append-nil, arith, length-append}
+use Rattle.std.proofs.Common.{◌≡◌, ℕ, suc, ◌+◌, ◌≤◌, true, false, ◌&&◌, ◌||◌, eqb, List, [], ◌∷◌, ◌++◌, length, take, Some, None, sym, refl, ap, ◌∙◌, subst, inl, inr, append_assoc, append-nil, arith, length-append}
 use Rattle.std.proofs.lemmas.Bool.{cases_Bool, both_ways, and_parts, eq-eqb}
 use Rattle.row.specs.declared.board.Link.{Link}
 use Rattle.row.specs.declared.board.Command.TheVariants.{Link as Links}
@@ -12,7 +12,7 @@ use Rattle.keeper.specs.Meaning.{Means}
 use Rattle.keeper.proofs.Knowing.{fine_cards}
 use Rattle.batch.specs.Several.{all_there, linked_on, after_link, with_links, said_before, closes, Becomes, circle}
 use Rattle.batch.specs.Joining.{joined, Tried, tried}
-use Rattle.batch.specs.JoinLaws.{PutIn, GoesRound, AllIn, Stopped, Tries}
+use Rattle.batch.specs.JoinLaws.{PutIn, GoesRound, Tries}
 use Rattle.batch.proofs.GoingOn.{there_parts, goes_on}
 use Rattle.batch.proofs.CircleLinks.{circle_more, round_closed}
 use Rattle.batch.proofs.Joins.{joins}

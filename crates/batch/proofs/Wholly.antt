@@ -1,13 +1,12 @@
 -- THE THEOREM: the engine of this crate meets the promise, within three steps; and its answers fit.
-use Rattle.std.proofs.Common.{◌≡◌, ℕ, ◌≤◌, true, false, eqb, List, length, replicate, refl, ◌∙◌, subst, inl, inr, arith}
+use Rattle.std.proofs.Common.{◌≡◌, ℕ, ◌≤◌, true, eqb, List, length, replicate, refl, ◌∙◌, inl, inr, arith}
 use lib.ListN.{length-replicate}
 use Rattle.std.proofs.lemmas.Bool.{cases_Bool}
-use Rattle.row.specs.Board.{Board}
 use Rattle.keeper.specs.declared.event.Event.TheVariants.{Said, Next}
 use Rattle.keeper.specs.declared.event.Reason.TheVariants.{Unfit}
 use Rattle.keeper.specs.declared.event.Act.TheVariants.{Refused as ActRefused}
 use Rattle.keeper.specs.Answers.{Answer, quiet, ends, pending}
-use Rattle.keeper.specs.Promise.{all_small, Steady as KeeperSteady}
+use Rattle.keeper.specs.Promise.{Steady as KeeperSteady}
 use Rattle.keeper.specs.Sized.{KeepsSize, fits, small_event}
 use Rattle.row.specs.Lists.{every}
 use Rattle.row.specs.Layout.{tally, count}
@@ -16,12 +15,12 @@ use Rattle.keeper.proofs.OwnSize.{size_pending, Sized, sized_cond, sized_then, s
 use Rattle.keeper.proofs.Wholly.{at_start}
 use Rattle.batch.specs.Saying.{noting, told_span}
 use Rattle.batch.specs.Tidying.{tidied}
-use Rattle.batch.specs.Engine.{Saying, one, several, anew, Heard, said, next}
+use Rattle.batch.specs.Engine.{one, several, anew, Heard, said, next}
 use Rattle.batch.specs.Promise.{small_saying, small_heard, Steady, WholeIn, Fits}
 use Rattle.batch.specs.Own.{whole_row, said_anew, when_idle, answer, guarded, own}
 use Rattle.batch.proofs.SaidSize.{sized_several}
 use Rattle.batch.proofs.TidySize.{tidies_only}
-use Rattle.batch.proofs.Simulation.{Keeps, StepKept, Kept, whole_in}
+use Rattle.batch.proofs.Simulation.{Kept, whole_in}
 use Rattle.batch.proofs.OneKept.{command_kept}
 use Rattle.batch.proofs.AnewKept.{anew_kept}
 use Rattle.batch.proofs.LinksKept.{several_links_kept}

@@ -8,7 +8,7 @@
 --   no_span               the span of no links
 --   moving s              the span, if a link goes backward there; else no place has to change
 --   span m ls             the part of the row that may change for the links
-use Rattle.std.specs.Prelude.{ℕ, ◌+◌, min, max, Bool, true, false, cond, ◌||◌, List, [], ◌∷◌, ◌++◌, is_some, nat_le}
+use Rattle.std.specs.Prelude.{ℕ, ◌+◌, min, max, Bool, false, cond, ◌||◌, List, [], ◌∷◌, ◌++◌, is_some, nat_le}
 use Rattle.row.specs.declared.board.Link.{Link}
 use Rattle.row.specs.Lists.{every, any}
 use Rattle.row.specs.Columns.{cell}

@@ -8,7 +8,7 @@
 --
 --   Joins             of a link that wasn't said before, between cards that are there, one or the other is so, if there's room in the table
 --   Tries             the same of links
-use Rattle.std.specs.Prelude.{◌≡◌, ℕ, ◌+◌, ◌<◌, ◌≤◌, true, false, List, [], ◌∷◌, ◌++◌, length, take, Some, None, Option}
+use Rattle.std.specs.Prelude.{◌≡◌, ℕ, ◌+◌, ◌<◌, ◌≤◌, true, false, List, ◌++◌, length, take, Some, None}
 use Rattle.row.specs.declared.board.Link.{Link}
 use Rattle.row.specs.declared.board.Command.TheVariants.{Link as Links}
 use Rattle.row.specs.Lists.{every, has}

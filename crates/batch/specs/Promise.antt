@@ -18,7 +18,7 @@
 --   RightIn n e m r    from the memory m and the board r on, each of the sayings is done or refused rightly within n steps
 --   WholeIn n e        the promise
 --   Fits e             each answer of the engine fits what carries it, whatever stands in its memory
-use Rattle.std.specs.Prelude.{◌≡◌, ℕ, zero, ◌≤◌, Bool, true, ◌&&◌, ◌≢◌, List, [], ◌∷◌, ◌++◌, length, Some, None, Option, nat_eq}
+use Rattle.std.specs.Prelude.{◌≡◌, ℕ, zero, ◌≤◌, Bool, true, ◌≢◌, List, [], ◌∷◌, ◌++◌, length, Some, None, Option, nat_eq}
 use Rattle.row.specs.declared.board.Link.{Link}
 use Rattle.row.specs.declared.board.Command.TheVariants.{Link as Links}
 use Rattle.row.specs.declared.board.Refusal.{Refusal}

@@ -11,7 +11,7 @@ use Rattle.std.specs.Prelude.{◌≡◌, ℕ, ◌<◌, ◌≤◌, true, ◌&&◌
 use Rattle.std.specs.List.Sorted.{IsPermutation, IsNonDecreasing}
 use Rattle.row.specs.declared.board.Link.{Link}
 use Rattle.row.specs.Lists.{every, has, distinct}
-use Rattle.row.specs.Board.{Board, keeps}
+use Rattle.row.specs.Board.{keeps}
 use Rattle.batch.specs.Several.{circle}
 use Rattle.batch.specs.Rule.{anew, Ruled, sorted}
 

@@ -11,7 +11,7 @@ use Rattle.std.specs.Prelude.{◌≡◌, ℕ, ◌<◌, ◌≤◌, true, false, �
 use Rattle.std.specs.List.Sorted.{IsPermutation}
 use Rattle.row.specs.declared.board.Link.{Link}
 use Rattle.row.specs.declared.board.Command.TheVariants.{Link as Links}
-use Rattle.row.specs.Lists.{has, place, distinct}
+use Rattle.row.specs.Lists.{has, place}
 use Rattle.row.specs.Board.{Board, keeps, fine}
 use Rattle.row.specs.Commands.{refusal, with_link, must_be}
 use Rattle.batch.specs.Several.{all_there, with_links, closes, several_refusal, Becomes, first_named, past_named, circle}

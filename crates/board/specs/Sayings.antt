@@ -5,7 +5,7 @@
 --   of_one bs k        a saying of one card: 0 it comes, 1 it goes
 --   of_two bs k        a saying of two cards: 2 the one before the other, 3 that needn't be, 4 their places
 --   first_saying bs    what stands at the front of the bytes: a saying with the number of its bytes, a byte that says nothing, or the beginning of a saying
-use Rattle.std.specs.Prelude.{ℕ, ◌+◌, ◌*◌, Bool, cond, List, length, Some, None, Option, ◌==◌, nat_le, nat_lt, slice_index}
+use Rattle.std.specs.Prelude.{ℕ, ◌+◌, ◌*◌, cond, List, length, Some, None, Option, ◌==◌, nat_le, nat_lt, slice_index}
 use Rattle.row.specs.declared.board.Link.{Link}
 use Rattle.row.specs.declared.board.Command.TheVariants.{Comes, Goes, Link as Links, Unlink as Unlinks, Places}
 use Rattle.row.specs.Board.{◌⟶◌}

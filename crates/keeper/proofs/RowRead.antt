@@ -1,12 +1,11 @@
 -- The row that is read from a memory that means a board is the board's.
-use Rattle.std.proofs.Common.{◌≡◌, ℕ, ◌≤◌, List, ◌++◌, length, take, drop, sym, ap, ◌∙◌, arith}
+use Rattle.std.proofs.Common.{◌≡◌, ℕ, List, ◌++◌, length, drop, sym, ap, ◌∙◌, arith}
 use Rattle.std.proofs.lemmas.List.{take_all}
 use Rattle.row.specs.Board.{Board}
 use Rattle.row.specs.Layout.{count}
 use Rattle.row.specs.Meaning.{cards}
 use Rattle.row.proofs.Present.{length_cards}
 use Rattle.row.proofs.Beginning.{tells_middle}
-use Rattle.keeper.specs.Meaning.{Means}
 use Rattle.keeper.specs.PlayLaws.{ReadsRow}
 use Rattle.keeper.proofs.Knowing.{row_is}
 

@@ -1,5 +1,5 @@
 -- A link that goes backward and can be kept: what is told makes the row new, in one part or in two.
-use Rattle.std.proofs.Common.{◌≡◌, ℕ, suc, ◌+◌, ◌-◌, ◌<◌, ◌≤◌, min, true, false, List, [], Some, None, Option, sym, refl, ◌∙◌, subst, inl, inr, arith}
+use Rattle.std.proofs.Common.{◌≡◌, ℕ, suc, ◌+◌, ◌<◌, ◌≤◌, min, true, false, List, [], Some, None, Option, sym, refl, ◌∙◌, subst, inl, inr, arith}
 use Rattle.std.proofs.lemmas.Bool.{cases_lt, ne_eqb, lt-ltb, lt-leb}
 use Rattle.row.specs.declared.board.Link.{Link}
 use Rattle.row.specs.declared.board.Command.TheVariants.{Link as Links}
@@ -22,7 +22,6 @@ use Rattle.keeper.proofs.ToldRuns.{ToldOut, told_run}
 use Rattle.row.proofs.Only.{firm_parts}
 use Rattle.keeper.proofs.Saying.{step_said}
 use Rattle.keeper.specs.Engine.{run_of, ran, runs}
-use Rattle.keeper.proofs.Unroll.{told}
 use Rattle.keeper.proofs.TwoCards.{Seated, slots_there}
 use Rattle.links.specs.Layout.{live}
 use Rattle.search.specs.Hunt.{meeting}

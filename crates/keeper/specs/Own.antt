@@ -23,10 +23,9 @@ use Rattle.row.specs.Moves.{came, gone, place_found}
 use Rattle.links.specs.Removing.{removed_all}
 use Rattle.keeper.specs.declared.event.Event.{Event}
 use Rattle.keeper.specs.declared.event.Event.TheVariants.{Said, Next}
-use Rattle.keeper.specs.declared.event.Reason.{Reason}
 use Rattle.keeper.specs.declared.event.Reason.TheVariants.{Unfit, Idle, Busy, Board}
 use Rattle.keeper.specs.declared.event.Act.{Act}
-use Rattle.keeper.specs.declared.event.Act.TheVariants.{Tells, Shows, Done, Refused}
+use Rattle.keeper.specs.declared.event.Act.TheVariants.{Shows, Done, Refused}
 use Rattle.keeper.specs.Engine.{action_of, Step, Engine}
 use Rattle.keeper.specs.Sized.{small_event, guarded}
 use Rattle.keeper.specs.Answers.{Answer, Ended, quiet, ends, refuses, pending, leaves_pending, by_result}

@@ -12,7 +12,7 @@ use Rattle.row.specs.Lookup.{given}
 use Rattle.links.specs.Layout.{live}
 use Rattle.links.specs.Building.{inserted}
 use Rattle.search.specs.Layout.{via}
-use Rattle.search.specs.Hunt.{Met, meeting}
+use Rattle.search.specs.Hunt.{meeting}
 use Rattle.search.specs.Settle.{forgotten, settled}
 use Rattle.search.specs.Way.{way}
 use Rattle.keeper.specs.declared.event.Act.TheVariants.{Shows}

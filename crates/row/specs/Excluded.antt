@@ -8,7 +8,7 @@
 --   said      1 2 3, with 1 before 2 said on it
 --   unsaid    the same, once that is taken back
 --   Excluded  what is so of them
-use Rattle.std.specs.Prelude.{◌≡◌, true, false, List, [], ◌∷◌, Some, None}
+use Rattle.std.specs.Prelude.{◌≡◌, true, false, [], ◌∷◌, Some, None}
 use Rattle.row.specs.declared.board.Command.TheVariants.{Link as Links, Unlink as Unlinks}
 use Rattle.row.specs.declared.board.Refusal.TheVariants.{Missing, Exists, Cycle}
 use Rattle.row.specs.Board.{Board, ◌⟶◌, linked, keeps, fine, leads}

@@ -11,7 +11,7 @@
 --   SlotsNamed     the board of cards is the board of slots with the cards' numbers for names, if its links are between cards
 --   ElseStays      nothing but the columns of this crate changes, and the memory keeps its length
 --   Depends        what the row means depends on the columns of this crate alone
-use Rattle.std.specs.Prelude.{◌≡◌, ℕ, ◌+◌, ◌<◌, ◌≤◌, Bool, true, false, cond, not, ◌&&◌, List, [], ◌∷◌, ◌++◌, map, length, take, drop, replicate, Some, None, Ok, ◌==◌}
+use Rattle.std.specs.Prelude.{◌≡◌, ℕ, ◌+◌, ◌<◌, ◌≤◌, true, false, cond, not, ◌&&◌, List, [], ◌∷◌, ◌++◌, map, length, take, drop, replicate, Some, None, Ok, ◌==◌}
 use Rattle.row.specs.declared.board.Refusal.TheVariants.{Missing, Exists, Full}
 use Rattle.row.specs.declared.board.Link.{Link}
 use Rattle.row.specs.declared.column.Column.{Column}

@@ -11,7 +11,7 @@
 --   last m           the place of the last card
 --   closed m s       the slot s taken out of the row
 --   gone m k         a card went
-use Rattle.std.specs.Prelude.{ℕ, zero, suc, ◌+◌, ◌-◌, min, Bool, cond, List, Some, None, Ok, Err, Option, Result, nat_lt}
+use Rattle.std.specs.Prelude.{ℕ, zero, suc, ◌+◌, ◌-◌, min, cond, List, Some, None, Ok, Err, Option, Result, nat_lt}
 use Rattle.row.specs.declared.board.Refusal.{Refusal}
 use Rattle.row.specs.declared.board.Refusal.TheVariants.{Missing, Exists, Full}
 use Rattle.row.specs.Columns.{cell, written}

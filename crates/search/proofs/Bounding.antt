@@ -10,7 +10,7 @@ use Rattle.search.specs.declared.hunt.Part.{Part}
 use Rattle.search.specs.declared.hunt.Front.{Front}
 use Rattle.search.specs.Marks.{marked}
 use Rattle.search.specs.Sides.{marks_of, other}
-use Rattle.search.specs.Hunt.{gone_on, idle, Met, met_with, hunted, part_of, front}
+use Rattle.search.specs.Hunt.{gone_on, idle, Met, met_with, hunted, part_of}
 use Rattle.search.specs.Meaning.{Parted}
 use Rattle.search.specs.HuntLaws.{Found}
 use Rattle.search.proofs.Between.{Setting, count_below, part_tells}

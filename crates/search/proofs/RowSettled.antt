@@ -29,7 +29,7 @@ use Rattle.search.proofs.Gathering.{Marking, marking_same, wrote, wrote_append, 
 use Rattle.search.proofs.Dealing.{put, length_put, put_apart, put_slots, put_places, deals}
 use Rattle.search.proofs.Exchanged.{exchanged, exchanged_same}
 use Rattle.search.proofs.Seating.{Rearranges, Seats, used_same, seated_standing}
-use Rattle.search.proofs.Reordered.{those, fill, as_many, rearranges, row_is}
+use Rattle.search.proofs.Reordered.{those, fill, rearranges, row_is}
 use Rattle.search.proofs.RowPlaces.{slot_one, in_row, place_row}
 use Rattle.search.proofs.SettleFrames.{only_forgotten, settles_only, settled_alike, forgets_all}
 

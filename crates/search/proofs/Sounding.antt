@@ -1,5 +1,5 @@
 -- What is so of the memory at each moment of a search, and what a search changes as it goes on.
-use Rattle.std.proofs.Common.{◌≡◌, ℕ, ◌+◌, ◌≤◌, true, ◌⊎◌, List, length, sym, refl, ◌∙◌, inl, inr, arith}
+use Rattle.std.proofs.Common.{◌≡◌, ℕ, true, ◌⊎◌, List, length, sym, refl, ◌∙◌, inl, inr, arith}
 use Rattle.row.specs.declared.board.Link.{Link}
 use Rattle.row.specs.declared.column.Column.{Column}
 use Rattle.row.specs.Columns.{cell}

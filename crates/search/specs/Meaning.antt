@@ -9,11 +9,10 @@
 --                       lead to a
 --   Trailed m m' a b x t   the two searches met at the link from x to t: what was come to from b and what leads to a, each with the next on its way back
 --                       to b, or on to a, in the column `via`
-use Rattle.std.specs.Prelude.{◌≡◌, ℕ, ◌+◌, ◌<◌, ◌≤◌, Bool, true, false, ◌&&◌, ◌⊎◌, List, length, nat_le}
-use Rattle.row.specs.declared.column.Column.{Column}
+use Rattle.std.specs.Prelude.{◌≡◌, ℕ, ◌+◌, ◌≤◌, Bool, true, false, ◌&&◌, ◌⊎◌, List, length, nat_le}
 use Rattle.row.specs.Board.{Board, fine, leads, linked}
-use Rattle.row.specs.Columns.{cell, apart}
-use Rattle.row.specs.Layout.{tally, ids, chain, slots, places, count, fresh}
+use Rattle.row.specs.Columns.{cell}
+use Rattle.row.specs.Layout.{tally, ids, chain, slots, places}
 use Rattle.row.specs.Meaning.{row_of, used, Stands}
 use Rattle.links.specs.Meaning.{edges, Tabled}
 use Rattle.search.specs.Layout.{fore, hind, via}

@@ -1,4 +1,4 @@
-use Rattle.std.proofs.Common.{◌≡◌, is_some, sym, ap, ◌∙◌, arith}
+use Rattle.std.proofs.Common.{is_some, sym, ap, ◌∙◌, arith}
 use Rattle.row.specs.declared.board.Link.{Link}
 use Rattle.keeper.specs.Linking.{slots_found}
 use Rattle.batch.proofs.Checks.{every_on, every_stop, every_end}

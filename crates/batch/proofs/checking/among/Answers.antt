@@ -1,4 +1,4 @@
-use Rattle.std.proofs.Common.{◌≡◌, sym, ◌∙◌, arith}
+use Rattle.std.proofs.Common.{sym, ◌∙◌, arith}
 use Rattle.links.specs.Entries.{joins}
 use Rattle.batch.proofs.Checks.{any_on, any_stop, any_end}
 use Rattle.batch.proofs.checking.among.Goals as goal

@@ -1,5 +1,4 @@
-use Rattle.std.proofs.Common.{◌≡◌, ◌+◌, drop, sym, ap, ◌∙◌, arith}
-use Rattle.batch.specs.declared.checking.Span.{Span}
+use Rattle.std.proofs.Common.{◌+◌, drop, sym, ap, ◌∙◌, arith}
 use Rattle.batch.specs.Checking.{spanned}
 use Rattle.batch.proofs.Checks.{spanned_on, spanned_end}
 use Rattle.batch.proofs.checking.named.Goals as goal

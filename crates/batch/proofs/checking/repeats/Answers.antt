@@ -1,4 +1,4 @@
-use Rattle.std.proofs.Common.{◌≡◌, sym, ◌∙◌, arith}
+use Rattle.std.proofs.Common.{sym, ◌∙◌, arith}
 use native.Mathlib.Nat.{sub-zero}
 use Rattle.batch.proofs.Checks.{repeated_on, repeated_stop, repeated_end}
 use Rattle.batch.proofs.checking.repeats.Goals as goal

@@ -1,5 +1,4 @@
-use Rattle.std.proofs.Common.{◌≡◌, sym, ap, ◌∙◌}
-use Rattle.batch.specs.declared.checking.Span.{Span}
+use Rattle.std.proofs.Common.{sym, ap, ◌∙◌}
 use Rattle.batch.specs.Checking.{moving}
 use Rattle.batch.proofs.Checks.{moving_back, moving_none}
 use Rattle.batch.proofs.checking.span_of.Goals as goal

@@ -1,4 +1,3 @@
-use Rattle.std.proofs.Common.{◌≡◌, sym, refl, ap, ◌∙◌, arith}
 use Rattle.keeper.specs.Reordering.{round_cards}
 use Rattle.search.proofs.Joining.{shown_is}
 use Rattle.batch.proofs.joining.show_round.Goals as goal

@@ -1,4 +1,4 @@
-use Rattle.std.proofs.Common.{◌≡◌, sym, ap, ◌∙◌, arith}
+use Rattle.std.proofs.Common.{sym, ap, ◌∙◌, arith}
 use Rattle.keeper.specs.Answers.{Answer}
 use Rattle.keeper.specs.Playing.{fronted}
 use Rattle.batch.proofs.SayingSteps.{brought_full, brought_kept, brought_told}

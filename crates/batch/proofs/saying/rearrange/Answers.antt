@@ -1,11 +1,10 @@
-use Rattle.std.proofs.Common.{◌≡◌, ℕ, ◌-◌, List, length, take, Some, sym, refl, ap, ◌∙◌, ap₂, arith}
+use Rattle.std.proofs.Common.{◌≡◌, ℕ, List, length, take, Some, sym, ap, ◌∙◌, ap₂}
 use native.Mathlib.Nat.{sub-zero}
-use Rattle.row.specs.declared.board.Link.{Link}
 use Rattle.keeper.specs.declared.event.Act.TheVariants.{Shows}
 use Rattle.keeper.specs.Answers.{Answer, leaves_pending}
 use Rattle.keeper.specs.Playing.{fronted}
 use Rattle.batch.specs.Joining.{tried, way_count, way_cards}
-use Rattle.batch.specs.Saying.{undone, brought, closed, by_trial, rearranged}
+use Rattle.batch.specs.Saying.{undone, brought, by_trial, rearranged}
 use Rattle.batch.proofs.Trying.{no_way, a_way}
 use Rattle.batch.proofs.SayingSteps.{trial_done, trial_round}
 use Rattle.batch.proofs.saying.rearrange.Goals as goal

@@ -1,4 +1,3 @@
-use Rattle.std.proofs.Common.{◌≡◌, sym, refl, ap, ◌∙◌, arith}
 use Rattle.keeper.specs.Reordering.{round_cards, shown_round}
 use Rattle.search.proofs.Joining.{shown_is}
 use Rattle.keeper.proofs.reordering.show_round.Goals as goal

@@ -1,4 +1,4 @@
-use Rattle.std.proofs.Common.{◌≡◌, ◌+◌, ◌≤◌, length, sym, refl, ap, ◌∙◌, arith}
+use Rattle.std.proofs.Common.{◌+◌, ◌≤◌, length, ◌∙◌, arith}
 use Rattle.keeper.specs.Telling.{told_part}
 use Rattle.keeper.proofs.TellingParts.{counted, told_middle}
 use Rattle.keeper.proofs.telling.tell_part.Goals as goal

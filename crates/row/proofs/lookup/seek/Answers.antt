@@ -1,4 +1,4 @@
-use Rattle.std.proofs.Common.{sym, ◌∙◌, arith}
+use Rattle.std.proofs.Common.{arith}
 use Rattle.row.proofs.Seeking.{steps}
 use Rattle.row.proofs.lookup.seek.Goals as goal
 

@@ -1,4 +1,4 @@
-use Rattle.std.proofs.Common.{ap, ◌∙◌, arith}
+use Rattle.std.proofs.Common.{arith}
 use Rattle.row.specs.Columns.{cell}
 use Rattle.row.specs.Layout.{ids}
 use Rattle.row.proofs.Fronts.{front_more, front_all}

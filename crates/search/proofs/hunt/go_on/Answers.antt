@@ -1,4 +1,4 @@
-use Rattle.std.proofs.Common.{arith, rules}
+use Rattle.std.proofs.Common.{rules}
 use Rattle.search.specs.Hunt.{gone_on}
 use Rattle.search.proofs.hunt.go_on.Goals as goal
 

@@ -1,4 +1,4 @@
-use Rattle.std.proofs.Common.{◌≡◌, ℕ, min, max, true, false, ◌||◌, ap, ◌∙◌, ap₂, arith}
+use Rattle.std.proofs.Common.{arith}
 use Rattle.batch.proofs.Checks.{widened_is}
 use Rattle.batch.proofs.checking.Span.to.Goals as goal
 
