@@ -9,6 +9,7 @@ use row::Command;
 use sayings::{Front, first};
 use std::fmt::Write;
 use std::io::Read;
+use std::process::ExitCode;
 use std::{env, fs};
 
 const HELP: &str = "\
@@ -160,10 +161,10 @@ fn run(rt: &HostRuntime) -> anyhow::Result<()> {
     play_file(rt, word.as_str())
 }
 
-fn main(rt: HostRuntime) -> anyhow::Result<()> {
-    let result = run(&rt);
-    if let Err(e) = &result {
-        eprintln!(rt; "board: {e}")?;
-    }
-    result
+fn main(rt: HostRuntime) -> ExitCode {
+    let Err(e) = run(&rt) else {
+        return ExitCode::SUCCESS;
+    };
+    let _ = eprintln!(rt; "board: {e}");
+    ExitCode::FAILURE
 }

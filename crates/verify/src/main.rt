@@ -9,6 +9,7 @@ use anyhow::anyhow;
 use input::{Question, decode, split};
 use row::{Reply, kept};
 use std::io::Read;
+use std::process::ExitCode;
 use std::{env, fs};
 
 const HELP: &str = "\
@@ -96,12 +97,12 @@ fn run(rt: &HostRuntime) -> anyhow::Result<()> {
     answer_file(rt, word.as_str())
 }
 
-fn main(rt: HostRuntime) -> anyhow::Result<()> {
-    let result = run(&rt);
-    if let Err(e) = &result {
-        eprintln!(rt; "verify: {e}")?;
-    }
-    result
+fn main(rt: HostRuntime) -> ExitCode {
+    let Err(e) = run(&rt) else {
+        return ExitCode::SUCCESS;
+    };
+    let _ = eprintln!(rt; "verify: {e}");
+    ExitCode::FAILURE
 }
 
 #[cfg(test)]
@@ -136,15 +137,12 @@ mod tests {
         let many = vec![in rt.alloc(); 1u64; 131074]?;
         let all = many.as_slice();
         assert!(rt; all.len() == 131074);
-        assert!(rt;
-            kept(&all[0..65537], &[]) == Reply::Refused(2),
-            "a card too many"
-        );
+        let links = &all[0..131072];
+        let longer = &links[0..65537];
+        let row = &longer[0..65536];
+        assert!(rt; kept(longer, &[]) == Reply::Refused(2), "a card too many");
         assert!(rt; kept(&[], all) == Reply::Refused(2), "a link too many");
-        assert!(rt;
-            kept(&all[0..65536], &all[0..131072]) == Reply::Broken(0),
-            "just as many"
-        );
+        assert!(rt; kept(row, links) == Reply::Broken(0), "just as many");
         Ok(())
     }
 }
