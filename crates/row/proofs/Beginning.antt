@@ -4,6 +4,7 @@ use lib.ListN.{length-replicate}
 use Rattle.std.proofs.lemmas.Bool.Decides.{nat_tests}
 use Rattle.std.proofs.lemmas.Bool.{cases_lt}
 use Rattle.std.proofs.lemmas.List.{get_or-replicate, get_or_past, get_or-take, get_or-drop, ext_get_or, length-take-le, length-drop}
+use Rattle.std.proofs.lemmas.Simd.{map-map}
 use Rattle.std.proofs.lemmas.List.FromFn.{length-map-range_with_len, get_or-map-range_with_len}
 use Rattle.std.specs.List.{range_with_len}
 use Rattle.row.specs.declared.column.Column.{Column}
@@ -72,10 +73,6 @@ part_is m p n l h =
     let b : i < n = omega arith in
     get_or-take n (drop (24784 + p) m) i 0 b ∙ get_or-drop (24784 + p) m i 0 ∙ slot_read m p i (omega arith)
     ∙ sym (get_or-map-range_with_len (cell m slots) p n i (p + i) 0 b refl))
-
-map-map : (f g : ℕ → ℕ) (xs : List ℕ) → map f (map g xs) ≡ map (λ x. f (g x)) xs
-map-map f g [] = refl
-map-map f g (x ∷ xs) = ap (λ (zs : List ℕ). f (g x) ∷ zs) (map-map f g xs)
 
 -- the cards at the slots from a place on are the row's middle
 pub middle_is : (m : List ℕ) (p n : ℕ) → Stands m → p + n ≤ count m →
