@@ -3,8 +3,11 @@
 set -u
 cd "$(dirname "$0")/.." || exit 1
 for program in board verify; do
-  (cd crates/$program && rt run </dev/null >/dev/null 2>&1)
-  [ -x crates/$program/out/$program ] || { echo "programs: $program isn't built: run 'rt run' in crates/$program"; echo '0 passed, 1 failed'; exit 1; }
+  if ! (cd crates/$program && rt run <stdin >/dev/null 2>&1); then
+    echo "programs: $program isn't proved, built and run: see 'rt run <stdin' in crates/$program"
+    echo '0 passed, 1 failed'
+    exit 1
+  fi
 done
 passed=0
 failed=0
@@ -12,9 +15,11 @@ out=$(mktemp)
 err=$(mktemp)
 trap 'rm -f "$out" "$err"' EXIT
 
-# expect NAME STATUS STDOUT STDERR: compares the last run, STDOUT byte by byte; STDERR is a part that the message has to have.
+# expect NAME STATUS STDOUT STDERR: compares the last run, STDOUT byte by byte; STDERR is the one line that is said there, without the program's name,
+# or 'none'.
 expect() {
-  if [ "$status" = "$2" ] && printf '%s' "$3" | cmp -s - "$out" && grep -qF -- "$4" "$err"; then
+  if [ "$4" = none ]; then said=; else said="${1%%:*}: $4"$'\n'; fi
+  if [ "$status" = "$2" ] && printf '%s' "$3" | cmp -s - "$out" && printf '%s' "$said" | cmp -s - "$err"; then
     passed=$((passed + 1))
   else
     failed=$((failed + 1))
@@ -29,7 +34,6 @@ run() {
   shift 2
   printf "$bytes" | crates/"$program"/out/"$program" "$@" >"$out" 2>"$err"
   status=$?
-  [ -s "$err" ] || echo none >"$err"
 }
 
 # Of a help text the first line is compared.
@@ -53,9 +57,9 @@ expect 'board: an end inside a saying' 1 $'1\n1 2\n' 'saying 3: the input ends i
 run board "$two"'\x00'
 expect 'board: an end after the first byte' 1 $'1\n1 2\n' 'saying 3: the input ends inside it'
 run board '' no-such-file
-expect 'board: no file' 1 '' 'no-such-file'
+expect 'board: no file' 1 '' 'no-such-file: No such file or directory (os error 2)'
 run board '' one two
-expect 'board: two files' 1 '' 'more than one file'
+expect 'board: two files' 1 '' 'more than one file; see board --help'
 run board '' crates/board/stdin
 expect 'board: a file' 0 "$(cat crates/board/stdout)"$'\n' none
 helps board
@@ -73,7 +77,7 @@ expect 'verify: a card too few' 1 '' 'the input ends before all its cards have c
 run verify ''
 expect 'verify: nothing at all' 1 '' 'the input ends before all its cards have come'
 run verify '' no-such-file
-expect 'verify: no file' 1 '' 'no-such-file'
+expect 'verify: no file' 1 '' 'no-such-file: No such file or directory (os error 2)'
 helps verify
 
 echo "$passed passed, $failed failed"

@@ -33,7 +33,7 @@ pub first_open : (r : Board) (l : Link) (ls : List Link) → all_there r (l ∷ 
 first_open r l ls t n = let h = there_parts r l ls t in record { there = (h.0, h.1); no_way = n }
 
 -- what the first link leaves for the others
-pub record Goes_on (r : Board) (l : Link) (ls : List Link) (mid : List ℕ) : Type 0 where
+pub record GoesOn (r : Board) (l : Link) (ls : List Link) (mid : List ℕ) : Type 0 where
   pub fine_so : fine (after_link r l mid) ≡ true
   pub long : length mid ≡ length r.row
   pub same_cards : (k : ℕ) → has mid k ≡ has r.row k
@@ -41,7 +41,7 @@ pub record Goes_on (r : Board) (l : Link) (ls : List Link) (mid : List ℕ) : Ty
   pub closing : closes (after_link r l mid) ls ≡ closes (linked_on r l) ls
 
 pub goes_on : (r : Board) (l : Link) (ls : List Link) (mid : List ℕ) → fine r ≡ true → all_there r (l ∷ ls) ≡ true → must_be r (Links l) mid ≡ true →
-    keeps mid (with_link r l.from l.to) ≡ true → Goes_on r l ls mid
+    keeps mid (with_link r l.from l.to) ≡ true → GoesOn r l ls mid
 goes_on r l ls mid fi t m ke =
     let s = cards_stay r fi l mid m in
     let h = there_parts r l ls t in

@@ -3,7 +3,7 @@
 
 mod sayings;
 
-use anyhow::anyhow;
+use anyhow::{Context, anyhow};
 use keeper::{MEMORY, OUTPUT, play, read_row};
 use row::Command;
 use sayings::{Front, first};
@@ -129,10 +129,8 @@ fn play_bytes(rt: &HostRuntime, bytes: &[u8]) -> anyhow::Result<()> {
 }
 
 fn play_file(rt: &HostRuntime, path: &str) -> anyhow::Result<()> {
-    match fs::read(rt, path) {
-        Ok(bytes) => play_bytes(rt, bytes.as_slice()),
-        Err(e) => Err(anyhow!(format!(in rt.alloc(); "{path}: {e}")?)),
-    }
+    let bytes = fs::read(rt, path).context(path)?;
+    play_bytes(rt, bytes.as_slice())
 }
 
 fn play_input(rt: &HostRuntime) -> anyhow::Result<()> {
@@ -165,6 +163,6 @@ fn main(rt: HostRuntime) -> ExitCode {
     let Err(e) = run(&rt) else {
         return ExitCode::SUCCESS;
     };
-    let _ = eprintln!(rt; "board: {e}");
+    let _ = eprintln!(rt; "board: {e:#}");
     ExitCode::FAILURE
 }

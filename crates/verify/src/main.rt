@@ -5,7 +5,7 @@ mod input;
 
 ghost use Rattle.row.specs.Kept.{Names};
 
-use anyhow::anyhow;
+use anyhow::{Context, anyhow};
 use input::{Question, decode, split};
 use row::{Reply, kept};
 use std::io::Read;
@@ -65,10 +65,8 @@ fn answer(rt: &HostRuntime, bytes: &[u8]) -> anyhow::Result<()> {
 }
 
 fn answer_file(rt: &HostRuntime, path: &str) -> anyhow::Result<()> {
-    match fs::read(rt, path) {
-        Ok(bytes) => answer(rt, bytes.as_slice()),
-        Err(e) => Err(anyhow!(format!(in rt.alloc(); "{path}: {e}")?)),
-    }
+    let bytes = fs::read(rt, path).context(path)?;
+    answer(rt, bytes.as_slice())
 }
 
 fn answer_input(rt: &HostRuntime) -> anyhow::Result<()> {
@@ -101,7 +99,7 @@ fn main(rt: HostRuntime) -> ExitCode {
     let Err(e) = run(&rt) else {
         return ExitCode::SUCCESS;
     };
-    let _ = eprintln!(rt; "verify: {e}");
+    let _ = eprintln!(rt; "verify: {e:#}");
     ExitCode::FAILURE
 }
 
