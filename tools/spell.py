@@ -23,10 +23,6 @@ def code_of(text):
     return "\n".join(lines)
 
 
-def names_in(text):
-    return [t for t in TOKEN.findall(text)]
-
-
 def of_the_library(code):
     out = set()
     for path, names in re.findall(r"^use ([^{\n]+)\.\{([^}]*)\}", code, re.M):
@@ -86,14 +82,19 @@ def turned_page(text, new):
     return re.sub(r"`[^`\n]*`", lambda m: renamed(m.group(0), new), text)
 
 
+def files_of(ending):
+    """The crates' files, without what a check leaves in out/."""
+    return sorted(f for f in glob.glob(f"crates/**/*.{ending}", recursive=True) if "/out/" not in f)
+
+
 def main():
-    sources = sorted(glob.glob("crates/**/*.antt", recursive=True))
+    sources = files_of("antt")
     codes = {f: code_of(open(f).read()) for f in sources}
     foreign, own, used = set(), set(), set()
     for code in codes.values():
         foreign |= of_the_library(code)
         own |= declared_in(code)
-        used |= set(names_in(code))
+        used |= set(TOKEN.findall(code))
     own = {n for n in own - foreign if "-" in n and re.match(r"[A-Za-z]", n)}
     new = {n: spelled(n) for n in own}
     for n in sorted(own):
@@ -106,7 +107,7 @@ def main():
     for f in sources:
         text = open(f).read()
         open(f, "w").write(turned_antt(text, new))
-    for f in sorted(glob.glob("crates/**/*.rt", recursive=True)):
+    for f in files_of("rt"):
         text = open(f).read()
         open(f, "w").write(turned_rt(text, new))
     for f in ["README.md"] + sorted(glob.glob("docs/*.md")):

@@ -3,7 +3,7 @@
 
 mod sayings;
 
-use anyhow::{Context, anyhow};
+use anyhow::{Context, bail};
 use keeper::{MEMORY, OUTPUT, play, read_row};
 use row::Command;
 use sayings::{Front, first};
@@ -107,12 +107,8 @@ fn play_all(rt: &HostRuntime, player: &mut Player, bytes: &[u8]) -> anyhow::Resu
                 player.answer(command)?;
                 at = at.saturating_add(taken);
             }
-            Front::Unknown(kind) => return Err(anyhow!(format!(in rt.alloc();
-                "saying {number}: the byte {kind} says nothing"
-            )?)),
-            Front::Cut => return Err(anyhow!(format!(in rt.alloc();
-                "saying {number}: the input ends inside it"
-            )?)),
+            Front::Unknown(kind) => bail!("saying {number}: the byte {kind} says nothing"),
+            Front::Cut => bail!("saying {number}: the input ends inside it"),
         }
         if player.lines.len() > 65536 {
             player.print(rt)?;
@@ -144,7 +140,7 @@ fn argument(rt: &HostRuntime) -> anyhow::Result<Option<String>> {
     let _program = args.next();
     let word = args.next();
     if args.next().is_some() {
-        return Err(anyhow!("more than one file; see board --help"));
+        bail!("more than one file; see board --help");
     }
     Ok(word)
 }

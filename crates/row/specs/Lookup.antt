@@ -2,7 +2,7 @@
 --
 --   bucket k         the bucket of a card
 --   given o z f      f of what is in an Option, z where there is nothing
---   Below o          what is in it, if anything is, is a slot; Entry-below: the slot of what is in it
+--   Below o          what is in it, if anything is, is a slot; EntryBelow: the slot of what is in it
 --   followed m p     the slot that a pointer holds
 --   sought f m p k   the entry of a card in the chain from a pointer on, in at most f steps
 --   found m k        the slot of a card

@@ -10,7 +10,7 @@
 --   OnlyBetween       in a little changed row only what stands between the two cards may have another place
 --   OnlyTouched       in a firm row, of those only what is touched
 --   StaysFine         a board that is fine stays fine
---   three             the board of Little-is-loose: three cards and no link
+--   three             the board of LittleIsLoose: three cards and no link
 --   LittleIsLoose     an example: little alone doesn't say what row it has to be, firm does
 use Rattle.std.specs.Prelude.{◌≡◌, ℕ, ◌<◌, ◌≤◌, true, false, ◌⊎◌, List, [], ◌∷◌, Some, None}
 use Rattle.row.specs.declared.board.Command.{Command}

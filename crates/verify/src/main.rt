@@ -5,7 +5,7 @@ mod input;
 
 ghost use Rattle.row.specs.Kept.{Names};
 
-use anyhow::{Context, anyhow};
+use anyhow::{Context, bail};
 use input::{Question, decode, split};
 use row::{Reply, kept};
 use std::io::Read;
@@ -54,12 +54,12 @@ fn print(rt: &HostRuntime, links: &[u64], reply: Reply) -> anyhow::Result<()>
 
 fn answer(rt: &HostRuntime, bytes: &[u8]) -> anyhow::Result<()> {
     if bytes.len() % 2 == 1 {
-        return Err(anyhow!("the input ends inside a number"));
+        bail!("the input ends inside a number");
     }
     let mut numbers = vec![in rt.alloc(); 0u64; bytes.len() / 2]?;
     decode(bytes, numbers.as_mut_slice());
     let Some(Question { row, links }) = split(numbers.as_slice()) else {
-        return Err(anyhow!("the input ends before all its cards have come"));
+        bail!("the input ends before all its cards have come");
     };
     print(rt, links, kept(row, links))
 }
@@ -80,7 +80,7 @@ fn argument(rt: &HostRuntime) -> anyhow::Result<Option<String>> {
     let _program = args.next();
     let word = args.next();
     if args.next().is_some() {
-        return Err(anyhow!("more than one file; see verify --help"));
+        bail!("more than one file; see verify --help");
     }
     Ok(word)
 }
@@ -126,7 +126,7 @@ mod tests {
     #[test]
     fn replies(rt: HostRuntime) {
         for (name, row, links, reply) in CASES {
-            assert!(rt; kept(row, links) == reply, "{}", name);
+            assert!(rt; kept(row, links) == reply, "{name}");
         }
     }
 
