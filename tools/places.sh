@@ -1,0 +1,25 @@
+#!/usr/bin/env bash
+# Counts the places that docs/DESIGN-PASS.md speaks of. Run at the top of a checkout.
+s=$(ls crates/*/src/*.rt)
+n() { printf '%-46s %s\n' "$1" "$2"; }
+n '1a enums of our own' "$(grep -hE '^ *(pub(\(crate\))? )?enum ' $s | wc -l)"
+n '1b a flag or an Option in a struct' "$(grep -hE '^ +(pub )?[a-z_]+: (bool|Option<.*>),$' $s | wc -l)"
+n '1c an Option of an error' "$(grep -hE -- '-> Option<(Refusal|Reason)>' $s | wc -l)"
+n '1d number codes' "$(grep -hE '(Refused|refused): ?Option<u64>|Refused\((u64|[0-9])\)|fn number|kind (==|<=) [0-9]|const (PENDING|NOTHING|DONE|ROUND|MORE)\b|refused\(.*, [0-9]\)|refused: Some\([0-9]|match pending' $s | wc -l)"
+n '1e an early return in place of ?' "$(grep -hE -A1 '^ *let (Some|Ok|None).* else \{$' $s | grep -E 'return (None|Err|Act::Refused|Front::Cut|false)' | wc -l)"
+n '2 names of functions in two files' "$(grep -HoE '\bfn [a-z_]+' $s | sort -u | awk '{print $2}' | sort | uniq -d | wc -l)"
+n '3a loops over numbers' "$(grep -hE '^ *(for|while) .* in .*\.\.' $s | wc -l)"
+n '3b counting by hand' "$(grep -hE '\+= 1|= [a-z_]+ \+ 1;|(saturating|wrapping)_add\(1\);' $s | wc -l)"
+n '4a equality and conversion by hand' "$(grep -hE '\bfn (is_same|is_link|number)\b|\.number\(\)' $s | wc -l)"
+n '4b types that derive no more than Copy' "$(grep -hE 'derive\(Clone, Copy\)\]' $s | wc -l)"
+n '5a a requires on memory or output' "$(grep -hE 'requires \{.*(8192 ≤ length out|524288)' $s | wc -l)"
+n '5b a clause with a bound of an Option' "$(grep -hE 'ensures below \{ (Below|Within|EntryBelow)' $s | wc -l)"
+n '5c a requires on a level of bits' "$(grep -hE 'requires \{.*start ≤ 128' $s | wc -l)"
+n '5d side and part side by side' "$(grep -hE 'side: Side, part: Part' $s | wc -l)"
+n '5e memory and output side by side' "$(tr '\n' ' ' < <(cat $s) | grep -oE 'fn [a-z_]+(<[^>]*>)?\([^)]*memory: &mut [^)]*out: &mut [^)]*\)' | wc -l)"
+n '6a elements by an index' "$(grep -hE 'at\.\.|\[at|\[i\]|\[2 \* i|bytes\[|\[i as usize\]' $s | wc -l)"
+n '6b columns of the lent memory' "$(grep -hE ': (Column|Marks|Family) = (Column|Marks|Family)' $s | wc -l)"
+n '7 matches on a kind' "$(grep -hE '^ *match self' $s | wc -l)"
+n '8a files of answers' "$(find crates/*/proofs -mindepth 2 -name Answers.antt | wc -l)"
+n '8b answers in them' "$(find crates/*/proofs -mindepth 2 -name Answers.antt | xargs grep -hE '^pub .* : *(goal\.|$)' | wc -l)"
+n '8c lines of proofs' "$(find crates/*/proofs -name '*.antt' | xargs cat | wc -l)"
