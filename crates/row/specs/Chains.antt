@@ -4,7 +4,7 @@
 --   held c n m p           the entry that a pointer holds
 --   put_first c h n m k l  the memory after the entry l was put in front of the chain of k
 --   taken_out c h n m p l  the memory after the entry l, which the pointer p holds, was taken out of its chain
-use Rattle.std.specs.Prelude.{ℕ, ◌+◌, ◌-◌, ◌*◌, ◌%◌, ◌<◌, cond, ◌||◌, List, Some, None, Option, ◌==◌, nat_lt}
+use Rattle.std.specs.Prelude.{ℕ, ◌+◌, ◌-◌, ◌*◌, ◌%◌, cond, ◌||◌, List, Some, None, Option, ◌==◌, nat_lt}
 use Rattle.row.specs.declared.column.Column.{Column}
 use Rattle.row.specs.Columns.{cell, written}
 

@@ -8,7 +8,7 @@
 --   found m k        the slot of a card
 --   entered m s k    the memory after the slot s was given to the card k
 --   withdrawn m e    the memory after an entry was taken out of its chain
-use Rattle.std.specs.Prelude.{ℕ, zero, suc, ◌+◌, ◌-◌, ◌*◌, ◌/◌, ◌%◌, ◌<◌, cond, ◌||◌, List, Some, None, Option, ◌==◌, nat_lt}
+use Rattle.std.specs.Prelude.{ℕ, zero, suc, ◌+◌, ◌/◌, ◌<◌, cond, List, Some, None, Option, ◌==◌}
 use Rattle.row.specs.declared.chains.Entry.{Entry}
 use Rattle.row.specs.Columns.{cell, written}
 use Rattle.row.specs.Chains.{spread, held}

@@ -78,6 +78,7 @@ pub fn comes(memory: &mut [u64], card: u64) -> Result<u64, Refusal>
 }
 
 // Moves each card behind `from`, up to `to`, one place to the left.
+#[tactic(auto, using(crate::proofs::Closing::steps))]
 fn shift(memory: &mut [u64], from: u64, to: u64)
     ensures { memory.new ≡ shifted (to - from) memory.old from }
 {

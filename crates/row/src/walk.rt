@@ -36,6 +36,7 @@ impl<'m> Iterator for Walk<'m> {
 
     ghost remaining = { item_count walk_left };
 
+    #[tactic(auto, using(crate::proofs::Walking::walks))]
     fn next(&mut self) -> Option<Entry> {
         self.steps = self.steps.checked_sub(1)?;
         let pointer = self.pointer;

@@ -1,4 +1,4 @@
-use Rattle.std.proofs.Common.{eqb, sym, subst, ◌∙◌, rules, tests, arith}
+use Rattle.std.proofs.Common.{eqb, sym, subst, ◌∙◌, rules, tests}
 use Rattle.std.proofs.lemmas.Iterator.Consumers.{YieldsList-from_first}
 use Rattle.std.proofs.lemmas.Iterator.Search.{find_from_yields_List}
 use Rattle.std.proofs.lemmas.Iterator.Adapters.{option_map_id}
