@@ -14,8 +14,11 @@ impl Column {
     fn index(self, memory: &[u64], i: u64) -> Option<usize>
         ensures { result ≡ index memory.now self i }
     {
-        let at = self.base.checked_add(i)?;
-        (i < self.size && at < memory.len() as u64).then_some(at as usize)
+        let len = memory.len() as u64;
+        if i >= self.size || i >= len || self.base >= len - i {
+            return None;
+        }
+        Some((self.base + i) as usize)
     }
 
     // What stands at `i`, or 0 past the column's end.
