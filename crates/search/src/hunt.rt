@@ -135,17 +135,15 @@ impl Front {
             side: self.side,
             part,
         };
-        match search.spread_from(memory, slot, self.fuel) {
-            ControlFlow::Break(far) => ControlFlow::Break(self.side.link(slot, far)),
-            ControlFlow::Continue(fuel) => {
-                let cursor = self.side.next(memory, place);
-                ControlFlow::Continue(Front {
-                    cursor,
-                    fuel,
-                    ..self
-                })
-            }
-        }
+        let fuel = search
+            .spread_from(memory, slot, self.fuel)
+            .map_break(|far| self.side.link(slot, far))?;
+        let cursor = self.side.next(memory, place);
+        ControlFlow::Continue(Front {
+            cursor,
+            fuel,
+            ..self
+        })
     }
 }
 
