@@ -9,6 +9,10 @@ use Rattle.std.proofs.lemmas.Bool.{cases_lt, cases_eq}
 use Rattle.std.proofs.lemmas.Bool.Decides.{nat_tests}
 use Rattle.search.specs.Marks.{digit}
 
+-- The digit 0, by a mask.
+pub last_digit : (w : ℕ) → eqb (bit_and w 1) 1 ≡ eqb (w % 2) 1
+last_digit w = ap (λ (v : ℕ). eqb v 1) (and_mask w 1)
+
 -- The digits of a number that is shifted down, and of one that is cut off.
 pub digit_shr : (w i t : ℕ) → digit (w / 2 ^ i) t ≡ digit w (i + t)
 unfolding digit
