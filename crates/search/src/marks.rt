@@ -170,8 +170,8 @@ impl Marks {
         self.up_from(memory, 0)
     }
 
-    // Downward. No word is shared with the way up but the two steps, first in the word and then in the one that the summary names: the test of a word, the
-    // neighbouring word, the edge and the bit that a word is entered at all differ, and a type for the direction would have to name each.
+    // Downward, by the same two steps. They aren't one function with those upward, over a type for the direction: the bit that is looked for, the edge, the
+    // word beside and the bit at which a word is entered all differ, and the type would have to name each of these.
 
     // The last set bit of a level up to `i`, in the word of `i`.
     #[tactic(auto, using(crate::proofs::Words::masked), unfolding(crate::specs::Marks::sink))]
