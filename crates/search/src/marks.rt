@@ -39,7 +39,7 @@ pub struct Marks {
 
 impl Marks {
     // Whether the bit `i` of a level is set.
-    #[tactic(auto, using(crate::proofs::Words::last_digit), unfolding(crate::specs::Marks::bit, crate::specs::Marks::digit))]
+    #[tactic(auto, using(std::proofs::lemmas::Nat::Bits::shr_and_one), unfolding(crate::specs::Marks::bit, crate::specs::Marks::digit))]
     fn bit(self, memory: &[u64], level: Level, i: u64) -> bool
         ensures { result ≡ bit memory.now self.column (first_word level) i }
     {
