@@ -1,5 +1,5 @@
 -- The two searches over the board of slots: what a link tells of slots and places, for both directions at once.
-use Rattle.std.proofs.Common.{◌≡◌, ℕ, ◌<◌, ◌≤◌, Bool, true, ltb, leb, List, refl, arith}
+use Rattle.std.proofs.Common.{◌≡◌, ℕ, ◌<◌, ◌≤◌, Bool, true, ltb, leb, List, arith}
 use Rattle.std.proofs.lemmas.Bool.{and_parts, and_from, le-leb, leb-true, ltb-true}
 use Rattle.row.specs.Lists.{has}
 use Rattle.row.specs.Board.{Board, leads, linked}
@@ -35,10 +35,6 @@ comes r Hind x y = leads r y x
 abbrev pub Beyond : Side → ℕ → ℕ → Type 0
 Beyond Fore p q = p < q
 Beyond Hind p q = q < p
-
-pub other_other : (d : Side) → other (other d) ≡ d
-other_other Fore = refl
-other_other Hind = refl
 
 -- the link that is asked for: it goes backward
 pub record Setting (m : List ℕ) (a b : ℕ) : Type 0 where
