@@ -1,82 +1,73 @@
 // Links are made and taken back.
-ghost use Rattle.std.specs.Prelude.{◌≡◌, ◌≤◌, ◌++◌, length, drop};
+ghost use Rattle.std.specs.Prelude.{◌≡◌, Ok};
+ghost use Rattle.keeper.specs.Answers.{Gives, Ends};
 ghost use Rattle.keeper.specs.Linking.{slots_found, unlinked, put_in, shown_itself, linked};
 
 use crate::event::{Act, Reason};
-use crate::layout::{LINKS, PENDING, ROUND};
-use crate::reordering::reorder;
+use crate::layout::LINKS;
+use crate::lent::Lent;
+use crate::pending::Pending;
 use links::{insert, remove};
-use row::{Link, Refusal, TALLY, find, place_at};
+use row::{Link, Refusal, find, place_at};
 
 // The slots of two cards, if both are there.
+#[tactic(auto, unfolding(crate::specs::Linking::slots_found))]
 pub fn slots_of(memory: &[u64], link: Link) -> Option<Link>
     ensures { result ≡ slots_found memory.now link }
 {
-    let Some(from) = find(memory, link.from) else {
-        return None;
-    };
-    let Some(to) = find(memory, link.to) else {
-        return None;
-    };
-    Some(Link { from, to })
+    Some(Link {
+        from: find(memory, link.from)?,
+        to: find(memory, link.to)?,
+    })
 }
 
 // Takes a link between cards back.
-pub(crate) fn unlink(memory: &mut [u64], link: Link) -> Act
-    ensures act { result ≡ (unlinked memory.old link).act }
-    ensures after { memory.new ≡ (unlinked memory.old link).memory }
+#[tactic(auto, unfolding(crate::specs::Linking::unlinked, links::specs::Removing::removed))]
+pub(crate) fn unlink(memory: &mut [u64], link: Link) -> Result<Act, Reason>
+    ensures { Ends (unlinked memory.old link) result memory.new }
 {
-    let Some(slots) = slots_of(memory, link) else {
-        return Act::Refused(Reason::Board(Refusal::Missing));
-    };
-    let Ok(_) = remove(memory, slots) else {
-        return Act::Refused(Reason::Board(Refusal::Missing));
-    };
-    Act::Done
+    let slots = slots_of(memory, link).ok_or(Refusal::Missing)?;
+    remove(memory, slots)?;
+    Ok(Act::Done)
 }
 
 // Puts a link between slots in, if there's room.
-fn put_in(memory: &mut [u64], slots: Link) -> Act
-    ensures act { result ≡ (put_in memory.old slots).act }
-    ensures after { memory.new ≡ (put_in memory.old slots).memory }
+#[tactic(auto, unfolding(crate::specs::Linking::put_in))]
+fn put_in(memory: &mut [u64], slots: Link) -> Result<Act, Reason>
+    ensures { Ends (put_in memory.old slots) result memory.new }
 {
     if links::len(memory) >= LINKS {
-        return Act::Refused(Reason::Board(Refusal::Full));
+        return Err(Refusal::Full.into());
     }
     insert(memory, slots);
-    Act::Done
+    Ok(Act::Done)
 }
 
-// A card before itself goes round: it is the way alone.
-fn show_itself(memory: &mut [u64], card: u64, out: &mut [u64]) -> Act
-    requires { 8192 ≤ length out.old }
-    ensures act { result ≡ (shown_itself memory.old card).act }
-    ensures after { memory.new ≡ (shown_itself memory.old card).memory }
-    ensures out { out.new ≡ (shown_itself memory.old card).numbers ++ drop (length (shown_itself memory.old card).numbers) out.old }
-{
-    out[0] = card;
-    TALLY.set(memory, PENDING, ROUND);
-    Act::Shows(1)
-}
+impl<'a> Lent<'a> {
+    // A card before itself goes round: it is the way alone.
+    fn show_itself(&mut self, card: u64) -> Act
+        ensures { Gives (shown_itself self.old.memory.now card) self.old.out.now (Ok result) self.new.memory.now self.new.out.now }
+    {
+        self.out[0] = card;
+        Pending::Round.note(self.memory);
+        Act::Shows(1)
+    }
 
-// Makes a link between cards.
-pub(crate) fn link(memory: &mut [u64], link: Link, out: &mut [u64]) -> Act
-    requires { (524288 ≤ length memory.old) × (8192 ≤ length out.old) }
-    ensures act { result ≡ (linked memory.old link).act }
-    ensures after { memory.new ≡ (linked memory.old link).memory }
-    ensures out { out.new ≡ (linked memory.old link).numbers ++ drop (length (linked memory.old link).numbers) out.old }
-{
-    let Some(slots) = slots_of(memory, link) else {
-        return Act::Refused(Reason::Board(Refusal::Missing));
-    };
-    let None = links::find(memory, slots) else {
-        return Act::Refused(Reason::Board(Refusal::Exists));
-    };
-    if slots.from == slots.to {
-        return show_itself(memory, link.from, out);
+    // Makes a link between cards.
+    #[tactic(auto, unfolding(crate::specs::Linking::linked))]
+    pub(crate) fn link(&mut self, link: Link) -> Result<Act, Reason>
+        ensures { Gives (linked self.old.memory.now link) self.old.out.now result self.new.memory.now self.new.out.now }
+    {
+        let slots = slots_of(self.memory, link).ok_or(Refusal::Missing)?;
+        if links::find(self.memory, slots).is_some() {
+            return Err(Refusal::Exists.into());
+        }
+        if slots.from == slots.to {
+            return Ok(self.show_itself(link.from));
+        }
+        if place_at(self.memory, slots.to) < place_at(self.memory, slots.from) {
+            return self.reorder(slots);
+        }
+        put_in(self.memory, slots)
     }
-    if place_at(memory, slots.to) < place_at(memory, slots.from) {
-        return reorder(memory, slots, out);
-    }
-    put_in(memory, slots)
 }

@@ -1,54 +1,51 @@
 // The row is put right for a link that goes backward.
-ghost use Rattle.std.specs.Prelude.{◌≡◌, ◌≤◌, ◌++◌, length, drop};
+ghost use Rattle.std.specs.Prelude.{◌≡◌, Ok};
+ghost use Rattle.keeper.specs.Answers.{Gives};
 ghost use Rattle.keeper.specs.Reordering.{shown_round, moved, reordered};
 
 use crate::event::{Act, Reason};
-use crate::layout::{LINKS, PENDING, ROUND};
-use crate::telling::tell_part;
+use crate::layout::LINKS;
+use crate::lent::Lent;
+use crate::pending::Pending;
 use links::insert;
-use row::{Link, Refusal, TALLY, place_at};
-use search::{forget, meet, settle, show};
+use row::{Link, Refusal, place_at};
+use search::{forget, meet, settle, show_and_forget};
 
-// Shows the way by which the link would go round, after the searches met.
-fn show_round(memory: &mut [u64], slots: Link, joint: Link, out: &mut [u64]) -> Act
-    requires { 8192 ≤ length out.old }
-    ensures act { result ≡ (shown_round memory.old slots joint).act }
-    ensures after { memory.new ≡ (shown_round memory.old slots joint).memory }
-    ensures out { out.new ≡ (shown_round memory.old slots joint).numbers ++ drop (length (shown_round memory.old slots joint).numbers) out.old }
-{
-    let n = show(memory, slots, joint, out);
-    forget(memory);
-    TALLY.set(memory, PENDING, ROUND);
-    Act::Shows(n)
-}
-
-// Puts the link in, with the row settled for it, if there's room; tells the part of the row from `low` to `high`.
-fn move_cards(memory: &mut [u64], slots: Link, low: u64, high: u64, out: &mut [u64]) -> Act
-    requires { (524288 ≤ length memory.old) × (8192 ≤ length out.old) }
-    ensures act { result ≡ (moved memory.old slots low high).act }
-    ensures after { memory.new ≡ (moved memory.old slots low high).memory }
-    ensures out { out.new ≡ (moved memory.old slots low high).numbers ++ drop (length (moved memory.old slots low high).numbers) out.old }
-{
-    if links::len(memory) >= LINKS {
-        forget(memory);
-        return Act::Refused(Reason::Board(Refusal::Full));
+impl<'a> Lent<'a> {
+    // Shows the way by which the link would go round, after the searches met.
+    fn show_round(&mut self, slots: Link, joint: Link) -> Act
+        ensures { Gives (shown_round self.old.memory.now slots joint) self.old.out.now (Ok result) self.new.memory.now self.new.out.now }
+    {
+        let out = &mut *self.out;
+        let n = show_and_forget(self.memory, slots, joint, out);
+        Pending::Round.note(self.memory);
+        Act::Shows(n)
     }
-    settle(memory);
-    insert(memory, slots);
-    tell_part(memory, low, high.saturating_add(1), out)
-}
 
-// For a link between slots of which the second stands first: the row is settled for it, or it's refused with the way by which it would go round.
-pub(crate) fn reorder(memory: &mut [u64], slots: Link, out: &mut [u64]) -> Act
-    requires { (524288 ≤ length memory.old) × (8192 ≤ length out.old) }
-    ensures act { result ≡ (reordered memory.old slots).act }
-    ensures after { memory.new ≡ (reordered memory.old slots).memory }
-    ensures out { out.new ≡ (reordered memory.old slots).numbers ++ drop (length (reordered memory.old slots).numbers) out.old }
-{
-    let low = place_at(memory, slots.to);
-    let high = place_at(memory, slots.from);
-    if let Some(joint) = meet(memory, slots) {
-        return show_round(memory, slots, joint, out);
+    // Puts the link in, with the row settled for it, if there's room; tells the part of the row from `low` to `high`.
+    #[tactic(auto, unfolding(crate::specs::Reordering::moved))]
+    fn move_cards(&mut self, slots: Link, low: u64, high: u64) -> Result<Act, Reason>
+        ensures { Gives (moved self.old.memory.now slots low high) self.old.out.now result self.new.memory.now self.new.out.now }
+    {
+        if links::len(self.memory) >= LINKS {
+            forget(self.memory);
+            return Err(Refusal::Full.into());
+        }
+        settle(self.memory);
+        insert(self.memory, slots);
+        Ok(self.tell_part(low, high.saturating_add(1)))
     }
-    move_cards(memory, slots, low, high, out)
+
+    // For a link between slots of which the second stands first: the row is settled for it, or it's refused with the way by which it would go round.
+    #[tactic(auto, unfolding(crate::specs::Reordering::reordered))]
+    pub(crate) fn reorder(&mut self, slots: Link) -> Result<Act, Reason>
+        ensures { Gives (reordered self.old.memory.now slots) self.old.out.now result self.new.memory.now self.new.out.now }
+    {
+        let low = place_at(self.memory, slots.to);
+        let high = place_at(self.memory, slots.from);
+        if let Some(joint) = meet(self.memory, slots) {
+            return Ok(self.show_round(slots, joint));
+        }
+        self.move_cards(slots, low, high)
+    }
 }
