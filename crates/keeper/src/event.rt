@@ -39,7 +39,7 @@ impl From<Reason> for u64 {
             Reason::Unfit => 0,
             Reason::Idle => 1,
             Reason::Busy => 2,
-            Reason::Board(refusal) => refusal.number(),
+            Reason::Board(refusal) => u64::from(refusal),
         }
     }
 }
