@@ -5,11 +5,12 @@
 --   stepped m ev out   a step on memory and output: the engine's, told at the front of the output; where the memory or the output doesn't fit, refused,
 --                      and nothing is changed
 --   Ending             how a command went: what is answered of it, the memory and the output after it
+--   Went e             what came of it is the ending e
 --   by_act go          what comes of one answer: go on, or be at the end; what is told is passed over, and of what is shown the count is noted
 --   plays n            an event and what comes of it, in at most n steps; if they aren't enough, it is refused
 --   played_on n        an answer and what comes of it, in at most n more steps
 --   played m c out     the command c, in at most three steps
-use Rattle.std.specs.Prelude.{ℕ, zero, suc, cond, List, ◌++◌, length, drop, Some, None, Ok, Err, Result}
+use Rattle.std.specs.Prelude.{◌≡◌, ℕ, zero, suc, cond, List, ◌++◌, length, drop, Some, None, Ok, Err, Result}
 use Rattle.row.specs.declared.board.Command.{Command}
 use Rattle.keeper.specs.declared.event.Event.{Event}
 use Rattle.keeper.specs.declared.event.Event.TheVariants.{Said, Next}
@@ -37,6 +38,11 @@ pub record Ending : Type 0 where
   pub answer : Played
   pub memory : List ℕ
   pub out : List ℕ
+
+pub record Went (e : Ending) (r : Played) (m₁ out₁ : List ℕ) : Type 0 where
+  pub answer : r ≡ e.answer
+  pub after : m₁ ≡ e.memory
+  pub told : out₁ ≡ e.out
 
 unfoldable pub by_act : (List ℕ → List ℕ → ℕ → Ending) → List ℕ → List ℕ → ℕ → Result Act Reason → Ending
 by_act go m out s (Ok (Tells p n)) = go m out s

@@ -6,7 +6,7 @@ ghost use Rattle.keeper.specs.Engine.{reason_number};
 use row::{Command, Refusal};
 
 // A command is said, or the keeper is to go on with the last one.
-#[derive(Clone, Copy)]
+#[derive(Clone, Copy, Debug, PartialEq, Eq)]
 pub enum Event {
     Said(Command),
     Next,
@@ -14,7 +14,7 @@ pub enum Event {
 
 // Why nothing is done: what was said or lent doesn't fit, there is nothing to go on with, the last command isn't at its end, or the board refuses the
 // command.
-#[derive(Clone, Copy, PartialEq, Eq)]
+#[derive(Clone, Copy, Debug, PartialEq, Eq)]
 pub enum Reason {
     Unfit,
     Idle,
@@ -23,10 +23,10 @@ pub enum Reason {
 }
 
 impl From<Refusal> for Reason {
-    ghost from_gives = { λ refusal reason. reason ≡ Board refusal };
+    ghost from_gives = { λ why reason. reason ≡ Board why };
 
-    fn from(refusal: Refusal) -> Reason {
-        Reason::Board(refusal)
+    fn from(why: Refusal) -> Reason {
+        Reason::Board(why)
     }
 }
 
@@ -46,7 +46,7 @@ impl From<Reason> for u64 {
 
 // What the keeper answers, if it doesn't refuse. It tells the row: from a place on so many cards; or it shows so many numbers. The cards and the numbers
 // stand at the front of the lent output. Then the command is done.
-#[derive(Clone, Copy, PartialEq, Eq)]
+#[derive(Clone, Copy, Debug, PartialEq, Eq)]
 pub enum Act {
     Tells(u64, u64),
     Shows(u64),

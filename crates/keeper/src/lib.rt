@@ -3,7 +3,6 @@
 
 mod event;
 mod layout;
-mod lent;
 mod linking;
 mod pending;
 mod playing;

@@ -4,9 +4,9 @@ ghost use Rattle.keeper.specs.Answers.{Gives, Ends};
 ghost use Rattle.keeper.specs.Linking.{slots_found, unlinked, put_in, shown_itself, linked};
 
 use crate::event::{Act, Reason};
-use crate::layout::LINKS;
-use crate::lent::Lent;
+use crate::layout::{LINKS, Memory, Output};
 use crate::pending::Pending;
+use crate::reordering::reorder;
 use links::{insert, remove};
 use row::{Link, Refusal, find, place_at};
 
@@ -43,31 +43,29 @@ fn put_in(memory: &mut [u64], slots: Link) -> Result<Act, Reason>
     Ok(Act::Done)
 }
 
-impl<'a> Lent<'a> {
-    // A card before itself goes round: it is the way alone.
-    fn show_itself(&mut self, card: u64) -> Act
-        ensures { Gives (shown_itself self.old.memory.now card) self.old.out.now (Ok result) self.new.memory.now self.new.out.now }
-    {
-        self.out[0] = card;
-        Pending::Round.note(self.memory);
-        Act::Shows(1)
-    }
+// A card before itself goes round: it is the way alone.
+fn show_itself(memory: &mut Memory, card: u64, out: &mut Output) -> Act
+    ensures { Gives (shown_itself memory.old card) out.old (Ok result) memory.new out.new }
+{
+    out[0] = card;
+    Pending::Round.note(memory);
+    Act::Shows(1)
+}
 
-    // Makes a link between cards.
-    #[tactic(auto, unfolding(crate::specs::Linking::linked))]
-    pub(crate) fn link(&mut self, link: Link) -> Result<Act, Reason>
-        ensures { Gives (linked self.old.memory.now link) self.old.out.now result self.new.memory.now self.new.out.now }
-    {
-        let slots = slots_of(self.memory, link).ok_or(Refusal::Missing)?;
-        if links::find(self.memory, slots).is_some() {
-            return Err(Refusal::Exists.into());
-        }
-        if slots.from == slots.to {
-            return Ok(self.show_itself(link.from));
-        }
-        if place_at(self.memory, slots.to) < place_at(self.memory, slots.from) {
-            return self.reorder(slots);
-        }
-        put_in(self.memory, slots)
+// Makes a link between cards.
+#[tactic(auto, unfolding(crate::specs::Linking::linked))]
+pub(crate) fn link(memory: &mut Memory, link: Link, out: &mut Output) -> Result<Act, Reason>
+    ensures { Gives (linked memory.old link) out.old result memory.new out.new }
+{
+    let slots = slots_of(memory, link).ok_or(Refusal::Missing)?;
+    if links::find(memory, slots).is_some() {
+        return Err(Refusal::Exists.into());
     }
+    if slots.from == slots.to {
+        return Ok(show_itself(memory, link.from, out));
+    }
+    if place_at(memory, slots.to) < place_at(memory, slots.from) {
+        return reorder(memory, slots, out);
+    }
+    put_in(memory, slots)
 }

@@ -6,7 +6,7 @@ use crate::layout::{MORE_FROM, MORE_TO, PENDING};
 use row::TALLY;
 
 // Nothing; that it's done; that it's refused, since it would go round; or more of the row, from a place on, below another.
-#[derive(Clone, Copy, PartialEq, Eq)]
+#[derive(Clone, Copy, Debug, PartialEq, Eq)]
 pub enum Pending {
     Nothing,
     Done,

@@ -8,9 +8,10 @@ ghost use Rattle.keeper.specs.Sister.{WholeIn};
 ghost use Rattle.keeper.specs.Sized.{Fits};
 
 use crate::event::{Act, Event, Reason};
-use crate::lent::Lent;
-use crate::linking::unlink;
+use crate::layout::{Memory, Output};
+use crate::linking::{link, unlink};
 use crate::pending::Pending;
+use crate::telling::tell_part;
 use links::remove_all;
 use row::{Command, Refusal, comes, goes, place_of};
 
@@ -31,62 +32,58 @@ fn leave(memory: &mut [u64], card: u64) -> Result<Act, Reason>
     Ok(Act::Done)
 }
 
-impl<'a> Lent<'a> {
-    // Shows how many cards stand before each of the two.
-    fn show_places(&mut self, a: u64, b: u64) -> Result<Act, Reason>
-        ensures { Gives (shown_places self.old.memory.now a b) self.old.out.now result self.new.memory.now self.new.out.now }
-    {
-        let first = place_of(self.memory, a).ok_or(Refusal::Missing)?;
-        let second = place_of(self.memory, b).ok_or(Refusal::Missing)?;
-        self.out[0] = first;
-        self.out[1] = second;
-        Pending::Done.note(self.memory);
-        Ok(Act::Shows(2))
-    }
+// Shows how many cards stand before each of the two.
+fn show_places(memory: &mut Memory, a: u64, b: u64, out: &mut Output) -> Result<Act, Reason>
+    ensures { Gives (shown_places memory.old a b) out.old result memory.new out.new }
+{
+    let first = place_of(memory, a).ok_or(Refusal::Missing)?;
+    let second = place_of(memory, b).ok_or(Refusal::Missing)?;
+    out[0] = first;
+    out[1] = second;
+    Pending::Done.note(memory);
+    Ok(Act::Shows(2))
+}
 
-    // A command is said.
-    #[tactic(auto, unfolding(crate::specs::Own::said))]
-    fn say(&mut self, command: Command) -> Result<Act, Reason>
-        ensures { Gives (said self.old.memory.now command) self.old.out.now result self.new.memory.now self.new.out.now }
-    {
-        match command {
-            Command::Comes(card) => arrive(self.memory, card),
-            Command::Goes(card) => leave(self.memory, card),
-            Command::Link(link) => self.link(link),
-            Command::Unlink(link) => unlink(self.memory, link),
-            Command::Places(a, b) => self.show_places(a, b),
-        }
+// A command is said.
+#[tactic(auto, unfolding(crate::specs::Own::said))]
+fn say(memory: &mut Memory, command: Command, out: &mut Output) -> Result<Act, Reason>
+    ensures { Gives (said memory.old command) out.old result memory.new out.new }
+{
+    match command {
+        Command::Comes(card) => arrive(memory, card),
+        Command::Goes(card) => leave(memory, card),
+        Command::Link(pair) => link(memory, pair, out),
+        Command::Unlink(pair) => unlink(memory, pair),
+        Command::Places(a, b) => show_places(memory, a, b, out),
     }
+}
 
-    // Goes on with the last command: more of the row, or its end.
-    #[tactic(auto, unfolding(crate::specs::Own::went_on, crate::specs::Answers::still_to_come))]
-    fn go_on(&mut self) -> Result<Act, Reason>
-        ensures { Gives (went_on self.old.memory.now) self.old.out.now result self.new.memory.now self.new.out.now }
-    {
-        let pending = Pending::of(self.memory);
-        if let Some(Pending::More { from, to }) = pending {
-            return Ok(self.tell_part(from, to));
-        }
-        Pending::Nothing.note(self.memory);
-        match pending {
-            Some(Pending::Done) => Ok(Act::Done),
-            Some(Pending::Round) => Err(Refusal::Cycle.into()),
-            _ => Err(Reason::Idle),
-        }
+// Goes on with the last command: more of the row, or its end.
+#[tactic(auto, unfolding(crate::specs::Own::went_on, crate::specs::Answers::still_to_come))]
+fn go_on(memory: &mut Memory, out: &mut Output) -> Result<Act, Reason>
+    ensures { Gives (went_on memory.old) out.old result memory.new out.new }
+{
+    let pending = Pending::of(memory);
+    if let Some(Pending::More { from, to }) = pending {
+        return Ok(tell_part(memory, from, to, out));
     }
+    Pending::Nothing.note(memory);
+    match pending {
+        Some(Pending::Done) => Ok(Act::Done),
+        Some(Pending::Round) => Err(Refusal::Cycle.into()),
+        _ => Err(Reason::Idle),
+    }
+}
 
-    // The answer to an event.
-    #[tactic(auto, unfolding(crate::specs::Own::answer, crate::specs::Answers::still_to_come))]
-    fn hear(&mut self, event: Event) -> Result<Act, Reason>
-        ensures { Gives (answer self.old.memory.now event) self.old.out.now result self.new.memory.now self.new.out.now }
-    {
-        match event {
-            Event::Next => self.go_on(),
-            Event::Said(_) if Pending::of(self.memory) != Some(Pending::Nothing) => {
-                Err(Reason::Busy)
-            }
-            Event::Said(command) => self.say(command),
-        }
+// The answer to an event.
+#[tactic(auto, unfolding(crate::specs::Own::answer, crate::specs::Answers::still_to_come))]
+fn hear(memory: &mut Memory, event: Event, out: &mut Output) -> Result<Act, Reason>
+    ensures { Gives (answer memory.old event) out.old result memory.new out.new }
+{
+    match event {
+        Event::Next => go_on(memory, out),
+        Event::Said(_) if Pending::of(memory) != Some(Pending::Nothing) => { Err(Reason::Busy) }
+        Event::Said(command) => say(memory, command, out),
     }
 }
 
@@ -104,5 +101,5 @@ pub fn step(memory: &mut [u64], event: Event, out: &mut [u64]) -> Result<Act, Re
     let Some(out) = out.first_chunk_mut() else {
         return Err(Reason::Unfit);
     };
-    Lent { memory, out }.hear(event)
+    hear(memory, event, out)
 }

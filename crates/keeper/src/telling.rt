@@ -4,8 +4,7 @@ ghost use Rattle.keeper.specs.Answers.{Gives};
 ghost use Rattle.keeper.specs.Telling.{told_part, left_to_tell};
 
 use crate::event::Act;
-use crate::layout::TOLD;
-use crate::lent::Lent;
+use crate::layout::{Memory, Output, TOLD};
 use crate::pending::Pending;
 use row::{CARDS, tell};
 
@@ -22,16 +21,13 @@ fn note_rest(memory: &mut [u64], from: u64, to: u64)
     rest.note(memory);
 }
 
-impl<'a> Lent<'a> {
-    // Tells the cards from the place `from` on, below `to`, at most TOLD of them.
-    pub(crate) fn tell_part(&mut self, from: u64, to: u64) -> Act
-        ensures { Gives (told_part self.old.memory.now from to) self.old.out.now (Ok result) self.new.memory.now self.new.out.now }
-    {
-        let first = from.min(CARDS);
-        let end = to.min(CARDS);
-        let out = &mut *self.out;
-        let n = tell(self.memory, first, end.saturating_sub(first).min(TOLD), out);
-        note_rest(self.memory, first + n, end);
-        Act::Tells(first, n)
-    }
+// Tells the cards from the place `from` on, below `to`, at most TOLD of them.
+pub(crate) fn tell_part(memory: &mut Memory, from: u64, to: u64, out: &mut Output) -> Act
+    ensures { Gives (told_part memory.old from to) out.old (Ok result) memory.new out.new }
+{
+    let first = from.min(CARDS);
+    let end = to.min(CARDS);
+    let n = tell(memory, first, end.saturating_sub(first).min(TOLD), out);
+    note_rest(memory, first + n, end);
+    Act::Tells(first, n)
 }
