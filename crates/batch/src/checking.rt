@@ -39,56 +39,30 @@ impl Span {
 pub(crate) fn all_there(memory: &[u64], batch: &[Link]) -> bool
     ensures { result ≡ all_found memory.now batch.now }
 {
-    for i in 0..batch.len() {
-        if slots_of(memory, batch[i]).is_none() {
-            return false;
-        }
-    }
-    true
-}
-
-// Whether both are between the same cards.
-fn is_same(link: Link, other: Link) -> bool
-    ensures { result ≡ joins link other }
-{
-    other.from == link.from && other.to == link.to
-}
-
-// Whether the link is one of these.
-fn among(links: &[Link], link: Link) -> bool
-    ensures { result ≡ any (joins link) links.now }
-{
-    for i in 0..links.len() {
-        if is_same(link, links[i]) {
-            return true;
-        }
-    }
-    false
+    batch.iter().all(|link| slots_of(memory, *link).is_some())
 }
 
 // Whether the link was said already.
+#[tactic(auto, unfolding(crate::specs::Checking::known))]
 fn is_known(memory: &[u64], link: Link) -> bool
     ensures { result ≡ known memory.now link }
 {
-    let Some(slots) = slots_of(memory, link) else {
-        return false;
-    };
-    links::find(memory, slots).is_some()
+    slots_of(memory, link).is_some_and(|slots| links::find(memory, slots).is_some())
 }
 
 // Whether the link was said already, or is one of these.
 fn is_said(memory: &[u64], before: &[Link], link: Link) -> bool
     ensures { result ≡ (known memory.now link || any (joins link) before.now) }
 {
-    is_known(memory, link) || among(before, link)
+    is_known(memory, link) || before.contains(&link)
 }
 
 // Whether one of the links was said already, or stands in the batch twice.
 pub(crate) fn repeats(memory: &[u64], batch: &[Link]) -> bool
     ensures { result ≡ repeated memory.now [] batch.now }
 {
-    for i in 0..batch.len() {
-        if is_said(memory, &batch[0..i], batch[i]) {
+    for (i, link) in batch.iter().enumerate() {
+        if is_said(memory, &batch[..i], *link) {
             return true;
         }
     }
@@ -109,11 +83,7 @@ fn widen(memory: &[u64], link: Link, span: Span) -> Span
 fn named(memory: &[u64], batch: &[Link]) -> Span
     ensures { result ≡ spanned memory.now batch.now no_span }
 {
-    let mut span = NONE;
-    for i in 0..batch.len() {
-        span = widen(memory, batch[i], span);
-    }
-    span
+    batch.iter().fold(NONE, |span, link| widen(memory, *link, span))
 }
 
 // The part of the row that may change for the links: none, if the row keeps them already.

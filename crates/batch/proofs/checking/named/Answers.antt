@@ -1,13 +1,14 @@
-use Rattle.std.proofs.Common.{◌+◌, drop, sym, ap, ◌∙◌, arith}
-use Rattle.batch.specs.Checking.{spanned}
-use Rattle.batch.proofs.Checks.{spanned_on, spanned_end}
+use Rattle.std.proofs.Common.{sym, ◌∙◌, rules, tests}
+use Rattle.std.proofs.lemmas.Iterator.{YieldsList-from_slice}
+use Rattle.std.proofs.lemmas.Iterator.Consumers.{fold_from_yields_List}
+use Rattle.row.specs.declared.board.Link.{Link}
+use Rattle.batch.specs.declared.checking.Span.{Span}
+use Rattle.batch.specs.Checking.{wider, no_span}
+use Rattle.batch.proofs.Checks.{spanned_is}
 use Rattle.batch.proofs.checking.named.Goals as goal
 
-pub loop-i-preserved : goal.loop-i-preserved
-loop-i-preserved c =
-    let l = c.loop-i in
-    ap (spanned c.args.memory.now (drop (l.i + 1) c.args.batch.now)) c.widen-span.ensures
-    ∙ sym (spanned_on c.args.memory.now c.args.batch.now l.i _ c.loop-i-test.true l.span) ∙ l.invariant
-
 pub returns : goal.returns
-returns c = let l = c.loop-i in sym (spanned_end c.args.memory.now c.args.batch.now l.i (omega arith) l.span) ∙ l.invariant
+returns c =
+    let m = c.args.memory.now in
+    fold_from_yields_List _ (λ (s : Span) (l : Link). wider m l s) _ _ c.fold.ensures.ran (YieldsList-from_slice c.args.batch.now cc)
+    (λ a x b q k. search (rules, tests)) ∙ sym (spanned_is m c.args.batch.now no_span)
