@@ -6,8 +6,8 @@ use Rattle.std.specs.List.{list_all, list_any, fold}
 use Rattle.row.specs.declared.board.Link.{Link}
 use Rattle.row.specs.Lists.{every, any}
 use Rattle.links.specs.Entries.{joins}
-use Rattle.batch.specs.declared.checking.Span.{Span}
-use Rattle.batch.specs.Checking.{known, repeated, behind, widened, wider, spanned, no_span, moving}
+use Rattle.batch.specs.declared.checking.Named.{Named}
+use Rattle.batch.specs.Checking.{known, repeated, behind, widened, wider, spanned}
 
 pub every_is : {X : Type 0} (f : X → Bool) (xs : List X) → every f xs ≡ list_all f xs
 unfolding every
@@ -17,7 +17,7 @@ pub any_is : {X : Type 0} (f : X → Bool) (xs : List X) → any f xs ≡ list_a
 unfolding any
 any_is f xs = same_from_clauses (any f) (list_any f) (λ x b. f x || b) refl (λ x xs. refl) (λ x xs. refl) xs
 
-pub spanned_is : (m : List ℕ) (ls : List Link) (s : Span) → spanned m ls s ≡ fold (λ s l. wider m l s) s ls
+pub spanned_is : (m : List ℕ) (ls : List Link) (s : Named) → spanned m ls s ≡ fold (λ s l. wider m l s) s ls
 unfolding spanned
 spanned_is m [] s = refl
 spanned_is m (l ∷ ls) s = spanned_is m ls (wider m l s)
@@ -35,19 +35,13 @@ module _ (m : List ℕ) (ls : List Link) (i : ℕ) (d : Link) (h : i < length ls
 
   pub repeated_stop : seen ≡ true → repeated m (take i ls) (drop i ls) ≡ true
   repeated_stop e = step ∙ rw e refl
+
 module _ (m : List ℕ) (ls : List Link) (i : ℕ) (h : length ls ≤ i) where
   pub repeated_end : (ps : List Link) → repeated m ps (drop i ls) ≡ false
   unfolding repeated
   repeated_end ps = at_drop_all (repeated m ps) ls i h
-pub widened_is : (s : Span) (a b low high : ℕ) (back : Bool) → low ≡ min s.low (min a b) → high ≡ max s.high (behind (max a b)) →
-    back ≡ (s.back || leb b a) → record { low = low; high = high; back = back } ≡ widened s a b
+
+pub widened_is : (s : Named) (a b low high : ℕ) (back : Bool) → low ≡ min s.span.low (min a b) → high ≡ max s.span.high (behind (max a b)) →
+    back ≡ (s.back || leb b a) → record { span = record { low = low; high = high }; back = back } ≡ widened s a b
 unfolding widened
 widened_is s a b low high back p q r = rw (p, q, r) refl
-
-pub moving_back : (s : Span) → s.back ≡ true → moving s ≡ s
-unfolding moving
-moving_back s e = rw e refl
-
-pub moving_none : (s : Span) → s.back ≡ false → moving s ≡ no_span
-unfolding moving
-moving_none s e = rw e refl

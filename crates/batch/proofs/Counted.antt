@@ -1,5 +1,5 @@
 -- Each answer of the engine comes with the numbers that it speaks of: as many as are shown, and none where nothing is shown or told.
-use Rattle.std.proofs.Common.{◌≡◌, ℕ, ◌≤◌, Bool, true, false, cond, eqb, ltb, leb, List, [], length, refl, arith}
+use Rattle.std.proofs.Common.{◌≡◌, ℕ, ◌≤◌, Bool, true, false, cond, eqb, ltb, leb, List, [], length, refl, arith, Option}
 use Rattle.std.proofs.lemmas.Bool.{cond_both}
 use Rattle.row.specs.declared.board.Command.{Command}
 use Rattle.row.specs.declared.board.Command.TheVariants.{Comes, Goes, Link as Links, Unlink as Unlinks, Places}
@@ -99,12 +99,12 @@ counted_command m (Said c) = one_or_other (eqb (pending m) 0) _ _ (counted_said 
 counted_command m Next = counted_on m
 
 -- those of this crate
-counted_brought : (m : List ℕ) (ls : List Link) (s : Span) → Counted (brought m ls s)
+counted_brought : (m : List ℕ) (ls : List Link) (s : Option Span) → Counted (brought m ls s)
 unfolding brought
-counted_brought m ls s =
-    one_or_other (leb (live m) 65536) _ _ (one_or_other s.back _ _ (counted_on (noting m s)) refl) refl
+counted_brought m ls o =
+    one_or_other (leb (live m) 65536) _ _ (given_holds Any Counted o _ _ tt refl (λ s _. counted_on (noting m s))) refl
 
-counted_trial : (t : Tried) (ls : List Link) (s : Span) → Counted (by_trial t ls s)
+counted_trial : (t : Tried) (ls : List Link) (s : Option Span) → Counted (by_trial t ls s)
 unfolding by_trial
 counted_trial t ls s = given_holds Any Counted t.way _ _ tt (counted_brought t.memory ls s) (λ ks _. refl)
 

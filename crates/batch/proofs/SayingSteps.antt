@@ -1,5 +1,5 @@
 -- How several links are said, way by way.
-use Rattle.std.proofs.Common.{◌≡◌, ℕ, ◌<◌, ◌≤◌, Bool, true, false, List, length, take, Some, None, refl, subst, arith}
+use Rattle.std.proofs.Common.{◌≡◌, ℕ, ◌<◌, ◌≤◌, Bool, true, List, length, take, Some, None, refl, subst, arith, Option}
 use Rattle.std.proofs.lemmas.Bool.{le-leb, lt-leb}
 use Rattle.std.proofs.lemmas.Bool.Decides.{nat_tests}
 use Rattle.row.specs.declared.board.Link.{Link}
@@ -21,24 +21,24 @@ unfolding StepBy
 taken m ev out r m₁ out₁ l o t =
     let f : step_fits m out ≡ true = grind (arith, nat_tests) in subst (λ (b : Bool). StepBy b m ev out r m₁ out₁) f t
 
-module _ (m : List ℕ) (ls : List Link) (s : Span) where
-  pub brought_full : 65536 < live m → brought m ls s ≡ quiet (refuses (undone m ls s) Full)
+module _ (m : List ℕ) (ls : List Link) where
+  pub brought_full : (o : Option Span) → 65536 < live m → brought m ls o ≡ quiet (refuses (undone m ls o) Full)
   unfolding brought
-  brought_full h = rw (lt-leb (live m) 65536 h) refl
+  brought_full o h = rw (lt-leb (live m) 65536 h) refl
 
-  pub brought_kept : live m ≤ 65536 → s.back ≡ false → brought m ls s ≡ quiet (ends Done m)
+  pub brought_kept : live m ≤ 65536 → brought m ls None ≡ quiet (ends Done m)
   unfolding brought
-  brought_kept h e = rw (le-leb (live m) 65536 h, e) refl
+  brought_kept h = rw (le-leb (live m) 65536 h) refl
 
-  pub brought_told : live m ≤ 65536 → s.back ≡ true → brought m ls s ≡ told_span m s
+  pub brought_told : (s : Span) → live m ≤ 65536 → brought m ls (Some s) ≡ told_span m s
   unfolding brought
-  brought_told h e = rw (le-leb (live m) 65536 h, e) refl
+  brought_told s h = rw (le-leb (live m) 65536 h) refl
 
-module _ (t : Tried) (ls : List Link) (s : Span) where
-  pub trial_done : t.way ≡ None → by_trial t ls s ≡ brought t.memory ls s
+module _ (t : Tried) (ls : List Link) (o : Option Span) where
+  pub trial_done : t.way ≡ None → by_trial t ls o ≡ brought t.memory ls o
   unfolding by_trial
   trial_done e = rw e refl
 
-  pub trial_round : (ks : List ℕ) → t.way ≡ Some ks → by_trial t ls s ≡ closed t.memory (take t.count ls) s ks
+  pub trial_round : (ks : List ℕ) → t.way ≡ Some ks → by_trial t ls o ≡ closed t.memory (take t.count ls) o ks
   unfolding by_trial
   trial_round ks e = rw e refl

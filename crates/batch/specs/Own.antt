@@ -26,7 +26,7 @@ use Rattle.batch.specs.Engine.{one, several, anew, Heard, said, next, Engine}
 use Rattle.batch.specs.Promise.{small_heard}
 
 abbrev pub whole_row : List ℕ → Span
-whole_row m = record { low = 0; high = count m; back = true }
+whole_row m = record { low = 0; high = count m }
 
 unfoldable pub said_anew : List ℕ → Answer
 said_anew m =

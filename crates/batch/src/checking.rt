@@ -7,29 +7,39 @@ ghost use Rattle.batch.specs.Checking.{all_found, known, repeated, widened, wide
 use keeper::slots_of;
 use row::{CARDS, Link, place_at};
 
-// The places from `low` on, below `high`; and whether a link goes backward there.
+// The places from `low` on, below `high`.
 #[derive(Clone, Copy)]
 pub(crate) struct Span {
     pub low: u64,
     pub high: u64,
-    pub back: bool,
 }
 
-// The span of no links.
-const NONE: Span = Span {
-    low: CARDS,
-    high: 0,
-    back: false,
-};
+// The places from the first card that some links name to the last; and whether one of the links goes backward.
+#[derive(Clone, Copy)]
+struct Named {
+    span: Span,
+    back: bool,
+}
 
-impl Span {
-    // Widened to two places, of a link's first card and of its second.
-    fn to(self, first: u64, second: u64) -> Span
+impl Named {
+    // Of no links.
+    const NONE: Named = Named {
+        span: Span {
+            low: CARDS,
+            high: 0,
+        },
+        back: false,
+    };
+
+    // Widened to two places, of one more link's first card and of its second.
+    fn to(self, first: u64, second: u64) -> Named
         ensures { result ≡ widened self first second }
     {
-        Span {
-            low: self.low.min(first.min(second)),
-            high: self.high.max(first.max(second).saturating_add(1)),
+        Named {
+            span: Span {
+                low: self.span.low.min(first.min(second)),
+                high: self.span.high.max(first.max(second).saturating_add(1)),
+            },
             back: self.back || second <= first,
         }
     }
@@ -69,27 +79,31 @@ pub(crate) fn repeats(memory: &[u64], batch: &[Link]) -> bool
     false
 }
 
-// The span, widened to the places of a link's two cards.
-fn widen(memory: &[u64], link: Link, span: Span) -> Span
-    ensures { result ≡ wider memory.now link span }
+// What is named, widened to the places of a link's two cards.
+#[tactic(auto, unfolding(crate::specs::Checking::wider))]
+fn widen(memory: &[u64], link: Link, named: Named) -> Named
+    ensures { result ≡ wider memory.now link named }
 {
     let Some(slots) = slots_of(memory, link) else {
-        return span;
+        return named;
     };
-    span.to(place_at(memory, slots.from), place_at(memory, slots.to))
+    named.to(place_at(memory, slots.from), place_at(memory, slots.to))
 }
 
 // The part of the row from the first card that a link names to the last.
-fn named(memory: &[u64], batch: &[Link]) -> Span
+fn spanned(memory: &[u64], batch: &[Link]) -> Named
     ensures { result ≡ spanned memory.now batch.now no_span }
 {
-    batch.iter().fold(NONE, |span, link| widen(memory, *link, span))
+    batch
+        .iter()
+        .fold(Named::NONE, |named, link| widen(memory, *link, named))
 }
 
 // The part of the row that may change for the links: none, if the row keeps them already.
-pub(crate) fn span_of(memory: &[u64], batch: &[Link]) -> Span
+#[tactic(auto, unfolding(crate::specs::Checking::moving))]
+pub(crate) fn span_of(memory: &[u64], batch: &[Link]) -> Option<Span>
     ensures { result ≡ span memory.now batch.now }
 {
-    let span = named(memory, batch);
-    if span.back { span } else { NONE }
+    let named = spanned(memory, batch);
+    named.back.then_some(named.span)
 }

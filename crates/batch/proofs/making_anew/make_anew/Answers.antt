@@ -13,12 +13,12 @@ returns-then-memory-ne-MEMORY c =
     let e = sym (anew_unfit a.memory.now a.row.now a.links.now a.out.now f) in
     record { answer = ap (λ (x : Made). x.answer) e; after = ap (λ (x : Made). x.memory) e; out = ap (λ (x : Made). x.out) e; right = makes_anew }
 
-pub returns-in-Some : goal.returns-in-Some
-returns-in-Some c =
+pub returns-in-Err : goal.returns-in-Err
+returns-in-Err c =
     let a = c.args in
     let l = c.load.ensures in
     let e = anew_refused a.memory.now a.row.now a.links.now a.out.now (omega arith) (omega arith) _ _
-    c.in-Some.refusal l.is c.in-Some.is l.after in
+    c.in-Err.refusal l.is c.in-Err.is l.after in
     record { answer = ap (λ (x : Made). x.answer) e; after = ap (λ (x : Made). x.memory) e; out = ap (λ (x : Made). x.out) e; right = makes_anew }
 
 pub returns : goal.returns
@@ -26,9 +26,9 @@ returns c =
     let a = c.args in
     let l = c.load.ensures in
     let f = c.finish.ensures in
-    let e = anew_so a.memory.now a.row.now a.links.now a.out.now (omega arith) (omega arith) _ _ l.is c.in_default.is l.after in
+    let e = anew_so a.memory.now a.row.now a.links.now a.out.now (omega arith) (omega arith) _ _ _ l.is c.in_default.is l.after in
     record {
-      answer = f.answer ∙ ap (λ (x : Made). x.answer) e;
+      answer = sym f.answer ∙ ap (λ (x : Made). x.answer) e;
       after = f.after ∙ ap (λ (x : Made). x.memory) e;
       out = f.out ∙ ap (λ (x : Made). x.out) e;
       right = makes_anew;

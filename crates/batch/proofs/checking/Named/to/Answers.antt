@@ -1,6 +1,6 @@
 use Rattle.std.proofs.Common.{arith}
 use Rattle.batch.proofs.Checks.{widened_is}
-use Rattle.batch.proofs.checking.Span.to.Goals as goal
+use Rattle.batch.proofs.checking.Named.to.Goals as goal
 
 pub returns-then-self : goal.returns-then-self
 returns-then-self c =
