@@ -48,3 +48,5 @@ back_end next N i s h = fuel_end (λ f. back next f s) N i h
 pub ruleset notes = (flagged_go, flagged_end, noted_go, noted_end)
 
 pub ruleset seeks = (first_left_here, first_left_on, first_left_end)
+
+pub ruleset goes_back = (back_go, back_end)

@@ -9,6 +9,7 @@ use crate::sorting::sort_part;
 use row::{CARDS, IDS, SLOTS, find};
 
 // The number of the card at a place.
+#[tactic(auto, unfolding(crate::specs::Arranging::card_at))]
 fn card_at(memory: &[u64], place: u64) -> u64
     ensures { result ≡ card_at memory.now place }
 {
@@ -26,6 +27,7 @@ fn list_numbers(memory: &mut [u64], n: u64)
 }
 
 // The slot of the card whose number stands at `i`.
+#[tactic(auto, unfolding(crate::specs::Arranging::slot_at))]
 fn slot_at(memory: &[u64], i: u64) -> u64
     ensures { result ≡ slot_at memory.now i }
 {
@@ -43,6 +45,7 @@ fn list_slots(memory: &mut [u64], n: u64)
 }
 
 // Puts the row into the order of the cards' numbers.
+#[tactic(auto, unfolding(crate::specs::Arranging::arranged_by))]
 pub(crate) fn arrange(memory: &mut [u64])
     ensures { memory.new ≡ arranged memory.old }
 {

@@ -18,6 +18,7 @@ use row::{CARDS, IDS, SLOTS, TALLY};
 const END: u64 = 3;
 
 // Notes of the first n slots in SPARE that they have come.
+#[tactic(auto, using(crate::proofs::CircleSteps::notes))]
 fn flag(memory: &mut [u64], n: u64)
     ensures { memory.new ≡ flagged n memory.old 0 }
 {
@@ -28,6 +29,7 @@ fn flag(memory: &mut [u64], n: u64)
 }
 
 // Whether the slot hasn't come.
+#[tactic(auto, unfolding(crate::specs::Circling::stays))]
 fn stays(memory: &[u64], slot: u64) -> bool
     ensures { result ≡ stays memory.now slot }
 {
@@ -35,6 +37,7 @@ fn stays(memory: &[u64], slot: u64) -> bool
 }
 
 // Notes for the slot that the link of an entry goes into the one that it comes out of, if that hasn't come.
+#[tactic(auto, unfolding(crate::specs::Circling::noted))]
 fn note(memory: &mut [u64], entry: u64)
     ensures { memory.new ≡ noted memory.old entry }
 {
@@ -46,6 +49,7 @@ fn note(memory: &mut [u64], entry: u64)
 }
 
 // So for each entry of the table.
+#[tactic(auto, using(crate::proofs::CircleSteps::notes))]
 fn note_all(memory: &mut [u64])
     ensures { memory.new ≡ notes memory.old }
 {
@@ -55,6 +59,7 @@ fn note_all(memory: &mut [u64])
 }
 
 // Notes all that, after n slots have come.
+#[tactic(auto, unfolding(crate::specs::Circling::traced))]
 fn trace(memory: &mut [u64], n: u64)
     ensures { memory.new ≡ traced memory.old n }
 {
@@ -64,6 +69,7 @@ fn trace(memory: &mut [u64], n: u64)
 }
 
 // The first slot in the row that hasn't come.
+#[tactic(auto, using(crate::proofs::CircleSteps::seeks))]
 fn first_left(memory: &[u64]) -> u64
     ensures { result ≡ start memory.now }
 {
@@ -77,6 +83,7 @@ fn first_left(memory: &[u64]) -> u64
 }
 
 // So many steps back from a slot that one is on a circle.
+#[tactic(auto, using(crate::proofs::CircleSteps::goes_back))]
 fn go_back(memory: &[u64], first: u64) -> u64
     ensures { result ≡ back (cell memory.now numbers) 8192 first }
 {

@@ -26,6 +26,7 @@ pub(crate) fn blank(memory: &mut [u64], counts: Column)
 }
 
 // Sets both to 0.
+#[tactic(auto, unfolding(crate::specs::Renewing::cleared))]
 fn clear(memory: &mut [u64])
     ensures { memory.new ≡ cleared memory.old }
 {
@@ -34,6 +35,7 @@ fn clear(memory: &mut [u64])
 }
 
 // Counts one more for a slot.
+#[tactic(auto, unfolding(crate::specs::Renewing::raised))]
 fn raise(memory: &mut [u64], counts: Column, slot: u64)
     ensures { memory.new ≡ raised memory.old counts slot }
 {
@@ -42,6 +44,7 @@ fn raise(memory: &mut [u64], counts: Column, slot: u64)
 }
 
 // Counts the link of an entry, at both its ends.
+#[tactic(auto, unfolding(crate::specs::Renewing::counted))]
 fn count(memory: &mut [u64], entry: u64)
     ensures { memory.new ≡ counted memory.old entry }
 {
@@ -52,6 +55,7 @@ fn count(memory: &mut [u64], entry: u64)
 }
 
 // Counts the links of a table that has no dead entry.
+#[tactic(auto, using(crate::proofs::RenewSteps::preparing))]
 fn count_all(memory: &mut [u64])
     ensures { memory.new ≡ counts memory.old }
 {
@@ -61,6 +65,7 @@ fn count_all(memory: &mut [u64])
 }
 
 // Marks the place of a slot, if it waits for none.
+#[tactic(auto, unfolding(crate::specs::Renewing::freed))]
 fn free(memory: &mut [u64], slot: u64)
     ensures { memory.new ≡ freed memory.old slot }
 {
@@ -71,6 +76,7 @@ fn free(memory: &mut [u64], slot: u64)
 }
 
 // Marks the places of all slots that wait for none.
+#[tactic(auto, using(crate::proofs::RenewSteps::preparing))]
 fn free_all(memory: &mut [u64])
     ensures { memory.new ≡ frees memory.old }
 {
@@ -81,6 +87,7 @@ fn free_all(memory: &mut [u64])
 }
 
 // Counts the links and marks what waits for none.
+#[tactic(auto, unfolding(crate::specs::Renewing::prepared))]
 fn prepare(memory: &mut [u64])
     ensures { memory.new ≡ prepared memory.old }
 {
@@ -91,6 +98,7 @@ fn prepare(memory: &mut [u64])
 }
 
 // The slot waits for one fewer.
+#[tactic(auto, unfolding(crate::specs::Renewing::lessened))]
 fn lessen(memory: &mut [u64], slot: u64)
     ensures { memory.new ≡ lessened memory.old slot }
 {
@@ -116,6 +124,7 @@ fn release_one(memory: &mut [u64], pointer: u64) -> Option<u64>
 }
 
 // Such a walk, of at most so many turns.
+#[tactic(auto, using(crate::proofs::RenewSteps::releasing))]
 fn release(memory: &mut [u64], slot: u64, turns: u64)
     ensures { memory.new ≡ released turns memory.old slot }
 {
@@ -129,6 +138,7 @@ fn release(memory: &mut [u64], slot: u64, turns: u64)
 }
 
 // The slot has come: the links out of it are followed, each once, since then none is counted any more.
+#[tactic(auto, unfolding(crate::specs::Renewing::let_go))]
 fn let_go(memory: &mut [u64], slot: u64)
     ensures { memory.new ≡ let_go memory.old slot }
 {
@@ -138,6 +148,7 @@ fn let_go(memory: &mut [u64], slot: u64)
 }
 
 // The slot at the place comes, after `i` others.
+#[tactic(auto, unfolding(crate::specs::Renewing::drawn))]
 fn draw(memory: &mut [u64], place: u64, i: u64)
     ensures { memory.new ≡ drawn memory.old place i }
 {
@@ -148,6 +159,7 @@ fn draw(memory: &mut [u64], place: u64, i: u64)
 }
 
 // Makes the row anew by the rule: writes the slots to SPARE in the order in which they come, and says how many come; all, unless links go round.
+#[tactic(auto, using(crate::proofs::RenewSteps::renews), unfolding(crate::specs::Renewing::renewed))]
 pub(crate) fn renew(memory: &mut [u64]) -> u64
     ensures is { result ≡ (renewed memory.old).came }
     ensures below { result ≤ 8192 }

@@ -6,6 +6,7 @@ use crate::layout::SPARE;
 use row::{CARDS, PLACES, SLOTS};
 
 // Puts the slots at the places from `low` on, below `high`, aside.
+#[tactic(auto, using(crate::proofs::SeatSteps::steps))]
 pub(crate) fn save(memory: &mut [u64], low: u64, high: u64)
     ensures { memory.new ≡ saved (min high 8192 - low) memory.old low }
 {
@@ -16,6 +17,7 @@ pub(crate) fn save(memory: &mut [u64], low: u64, high: u64)
 }
 
 // Gives the places from `low` on, below `high`, to the slots that were put aside for them.
+#[tactic(auto, using(crate::proofs::SeatSteps::steps))]
 pub(crate) fn reseat(memory: &mut [u64], low: u64, high: u64)
     ensures { memory.new ≡ reseated (min high 8192 - low) memory.old low }
 {

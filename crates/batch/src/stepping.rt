@@ -10,6 +10,7 @@ use keeper::{Act, MEMORY, NOTHING, OUTPUT, PENDING, Reason};
 use row::{Link, TALLY};
 
 // Why no saying can begin: what is lent doesn't fit, or the last saying isn't at its end.
+#[tactic(auto, unfolding(crate::specs::Own::hindrance))]
 fn hindrance_of(memory: &[u64], out: &[u64]) -> Option<Reason>
     ensures { result ≡ hindrance memory.now out.now }
 {

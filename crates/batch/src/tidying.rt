@@ -8,6 +8,7 @@ use crate::seating::reseat;
 use row::CARDS;
 
 // Makes the row anew by the rule, from the order of the cards' numbers on, and says whether all cards came: they do unless links go round.
+#[tactic(auto, unfolding(crate::specs::Tidying::tidied))]
 pub(crate) fn tidy(memory: &mut [u64]) -> bool
     ensures is { result ≡ (tidied memory.old).all }
     ensures after { memory.new ≡ (tidied memory.old).memory }
