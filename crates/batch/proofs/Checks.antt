@@ -22,7 +22,10 @@ unfolding spanned
 spanned_is m [] s = refl
 spanned_is m (l ∷ ls) s = spanned_is m ls (wider m l s)
 
-module _ (m : List ℕ) (ls : List Link) (i : ℕ) (d : Link) (h : i < length ls) where
+module _ (m : List ℕ) (ls : List Link) (i : ℕ) (h : i < length ls) where
+  abbrev d : Link
+  d = record { from = 0; to = 0 }
+
   abbrev seen : Bool
   seen = known m (get_or ls i d) || any (joins (get_or ls i d)) (take i ls)
 
@@ -45,3 +48,5 @@ pub widened_is : (s : Named) (a b low high : ℕ) (back : Bool) → low ≡ min 
     back ≡ (s.back || leb b a) → record { span = record { low = low; high = high }; back = back } ≡ widened s a b
 unfolding widened
 widened_is s a b low high back p q r = rw (p, q, r) refl
+
+pub ruleset repeating = (repeated_on, repeated_stop, repeated_end)

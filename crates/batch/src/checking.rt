@@ -32,6 +32,7 @@ impl Named {
     };
 
     // Widened to two places, of one more link's first card and of its second.
+    #[tactic(auto, unfolding(crate::specs::Checking::widened))]
     fn to(self, first: u64, second: u64) -> Named
         ensures { result ≡ widened self first second }
     {
@@ -68,6 +69,7 @@ fn is_said(memory: &[u64], before: &[Link], link: Link) -> bool
 }
 
 // Whether one of the links was said already, or stands in the batch twice.
+#[tactic(auto, using(crate::proofs::Checks::repeating))]
 pub(crate) fn repeats(memory: &[u64], batch: &[Link]) -> bool
     ensures { result ≡ repeated memory.now [] batch.now }
 {

@@ -18,6 +18,7 @@ pub(crate) struct Round {
 }
 
 // Shows the cards of the way by which the link would go round, after the searches met, and forgets the search.
+#[tactic(auto, using(search::proofs::Joining::shown_is), unfolding(keeper::specs::Reordering::round_cards))]
 fn show_round(memory: &mut [u64], slots: Link, joint: Link, out: &mut [u64]) -> u64
     requires { 8192 ≤ length out.old }
     ensures is { result ≡ length (round_cards memory.old slots joint) }

@@ -32,6 +32,7 @@ fn show_row(memory: &[u64], n: u64, out: &mut [u64])
 }
 
 // Makes the row of a memory anew, and shows it, or a circle.
+#[tactic(auto, unfolding(crate::specs::MakingAnew::ended))]
 fn finish(memory: &mut [u64], out: &mut [u64]) -> Anew
     requires { 8192 ≤ length out.old }
     ensures answer { (ended (renewed memory.old).memory (renewed memory.old).came out.old).answer ≡ Ok result }
