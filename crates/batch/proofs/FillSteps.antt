@@ -13,5 +13,3 @@ filled_go v c N i m h = fuel_step (λ f. filled v c f m i) N i h
 pub filled_end : (v : List ℕ → ℕ → ℕ) (c : Column) (N i j : ℕ) (m : List ℕ) → N ≤ i → filled v c (N - i) m j ≡ m
 unfolding filled
 filled_end v c N i j m h = fuel_end (λ f. filled v c f m j) N i h
-
-pub ruleset steps = (filled_go, filled_end)
