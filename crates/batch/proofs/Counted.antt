@@ -24,7 +24,7 @@ use Rattle.keeper.specs.Linking.{slots_found, unlinked, put_in, linked}
 use Rattle.keeper.specs.Own.{said as command_said, finished, went_on, answer as keeper_answer}
 use Rattle.keeper.proofs.Size.{given_holds}
 use Rattle.keeper.proofs.OwnSize.{by_result_holds, Any}
-use Rattle.batch.specs.declared.checking.Span.{Span}
+use Rattle.batch.specs.declared.seating.Span.{Span}
 use Rattle.batch.specs.Checking.{all_found, repeated}
 use Rattle.batch.specs.Joining.{Tried}
 use Rattle.batch.specs.Saying.{noting, brought, by_trial, rearranged, said_several}

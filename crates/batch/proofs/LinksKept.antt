@@ -19,7 +19,7 @@ use Rattle.keeper.proofs.Saying.{missing_is_not, exists_is_not, full_is_not}
 use Rattle.keeper.proofs.Carrying.{noted}
 use Rattle.keeper.proofs.Noting.{settles}
 use Rattle.keeper.proofs.ToldRuns.{from_first}
-use Rattle.batch.specs.declared.checking.Span.{Span}
+use Rattle.batch.specs.declared.seating.Span.{Span}
 use Rattle.batch.specs.Several.{all_there, with_links, said_before, closes, several_refusal, Becomes, past_named}
 use Rattle.batch.specs.SeveralLaws.{Between}
 use Rattle.batch.specs.Checking.{span}

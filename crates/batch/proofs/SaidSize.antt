@@ -20,7 +20,7 @@ use Rattle.keeper.specs.Linking.{slots_found}
 use Rattle.keeper.specs.Reordering.{round_cards}
 use Rattle.keeper.proofs.Size.{small_map, small_cell, size_same, size_then, size_written, given_holds}
 use Rattle.keeper.proofs.OwnSize.{BothBelow, size_inserted, size_removed, size_meeting, size_forgotten, size_settled, size_pending, Sized, sized_done, sized_refuses, sized_then, sized_cond, sized_shows, small_one, both_found, Any, sized_on}
-use Rattle.batch.specs.declared.checking.Span.{Span}
+use Rattle.batch.specs.declared.seating.Span.{Span}
 use Rattle.batch.specs.Checking.{all_found, repeated, wider, widened, spanned, moving, no_span, span}
 use Rattle.batch.specs.Joining.{Joined, joined_slots, joined, Tried, tried, dropped, taken_out}
 use Rattle.batch.specs.Saying.{noting, told_span, part_aside, undone, brought, by_trial, rearranged, said_several}

@@ -10,7 +10,7 @@ use Rattle.keeper.specs.declared.event.Act.{Act}
 use Rattle.keeper.specs.declared.event.Act.TheVariants.{Done}
 use Rattle.keeper.specs.Answers.{quiet, ends, refuses}
 use Rattle.keeper.specs.Own.{step_fits, Taken, StepBy, StepSays}
-use Rattle.batch.specs.declared.checking.Span.{Span}
+use Rattle.batch.specs.declared.seating.Span.{Span}
 use Rattle.batch.specs.Joining.{Tried}
 use Rattle.batch.specs.Saying.{told_span, undone, brought, closed, by_trial}
 

@@ -12,7 +12,7 @@ use Rattle.row.proofs.Present.{length_cards}
 use Rattle.search.specs.Meaning.{Ready}
 use Rattle.keeper.specs.Meaning.{card_board}
 use Rattle.keeper.proofs.Knowing.{row_is, fine_cards}
-use Rattle.batch.specs.declared.checking.Span.{Span}
+use Rattle.batch.specs.declared.seating.Span.{Span}
 use Rattle.batch.specs.declared.checking.Named.{Named}
 use Rattle.batch.specs.Several.{all_there, first_named, past_named}
 use Rattle.batch.specs.Checking.{widened, spanned, no_span, moving}

@@ -8,7 +8,7 @@ use Rattle.row.specs.Board.{Board}
 use Rattle.row.specs.Layout.{ids, chain}
 use Rattle.keeper.specs.Promise.{small_command}
 use Rattle.keeper.specs.Meaning.{Means}
-use Rattle.batch.specs.declared.checking.Span.{Span}
+use Rattle.batch.specs.declared.seating.Span.{Span}
 use Rattle.batch.specs.Layout.{spare}
 use Rattle.batch.specs.Several.{all_there, Becomes, first_named, past_named}
 use Rattle.batch.specs.Joining.{tried, taken_out}

@@ -11,7 +11,7 @@ use Rattle.std.specs.Prelude.{◌≡◌, ℕ, ◌<◌, ◌≤◌, true, not, Lis
 use Rattle.row.specs.declared.board.Link.{Link}
 use Rattle.row.specs.Board.{Board, keeps}
 use Rattle.keeper.specs.Meaning.{Means}
-use Rattle.batch.specs.declared.checking.Span.{Span}
+use Rattle.batch.specs.declared.seating.Span.{Span}
 use Rattle.batch.specs.Several.{all_there, said_before, first_named, past_named}
 use Rattle.batch.specs.Checking.{all_found, repeated, spanned, no_span, span}
 

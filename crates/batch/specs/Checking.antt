@@ -17,7 +17,7 @@ use Rattle.row.specs.Layout.{places}
 use Rattle.row.specs.Lookup.{given}
 use Rattle.links.specs.Entries.{joins, found as entry_found}
 use Rattle.keeper.specs.Linking.{slots_found}
-use Rattle.batch.specs.declared.checking.Span.{Span}
+use Rattle.batch.specs.declared.seating.Span.{Span}
 use Rattle.batch.specs.declared.checking.Named.{Named}
 
 abbrev pub all_found : List ℕ → List Link → Bool

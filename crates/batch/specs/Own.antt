@@ -19,7 +19,7 @@ use Rattle.keeper.specs.Engine.{reason_number, refused, action_of, Step}
 use Rattle.keeper.specs.Answers.{Answer, quiet, ends, pending}
 use Rattle.keeper.specs.Own.{step_fits, answer as keeper_answer}
 use Rattle.keeper.specs.Playing.{fronted}
-use Rattle.batch.specs.declared.checking.Span.{Span}
+use Rattle.batch.specs.declared.seating.Span.{Span}
 use Rattle.batch.specs.Saying.{told_span, said_several}
 use Rattle.batch.specs.Tidying.{tidied}
 use Rattle.batch.specs.Engine.{one, several, anew, Heard, said, next, Engine}

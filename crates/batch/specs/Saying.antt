@@ -19,7 +19,7 @@ use Rattle.links.specs.Layout.{live}
 use Rattle.keeper.specs.declared.event.Act.TheVariants.{Shows, Done}
 use Rattle.keeper.specs.Answers.{Answer, quiet, ends, refuses, leaves_pending}
 use Rattle.keeper.specs.Own.{went_on}
-use Rattle.batch.specs.declared.checking.Span.{Span}
+use Rattle.batch.specs.declared.seating.Span.{Span}
 use Rattle.batch.specs.Checking.{all_found, repeated, span}
 use Rattle.batch.specs.Joining.{Tried, tried, taken_out}
 use Rattle.batch.specs.Seating.{saved, reseated}

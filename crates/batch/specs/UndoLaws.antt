@@ -17,7 +17,7 @@ use Rattle.row.specs.Lists.{every}
 use Rattle.row.specs.Board.{Board}
 use Rattle.keeper.specs.Promise.{small_command}
 use Rattle.keeper.specs.Meaning.{Means}
-use Rattle.batch.specs.declared.checking.Span.{Span}
+use Rattle.batch.specs.declared.seating.Span.{Span}
 use Rattle.batch.specs.Several.{all_there, with_links, Becomes, first_named, past_named}
 use Rattle.batch.specs.Joining.{tried, taken_out}
 use Rattle.batch.specs.Seating.{saved}

@@ -2,9 +2,9 @@
 ghost use Rattle.std.specs.Prelude.{◌≡◌};
 ghost use Rattle.batch.specs.Arranging.{card_at, slot_at, arranged};
 
-use crate::listing::fill;
 use crate::layout::{NUMBERS, SPARE};
-use crate::seating::reseat;
+use crate::listing::fill;
+use crate::seating::Span;
 use crate::sorting::sort_part;
 use row::{CARDS, IDS, SLOTS, find};
 
@@ -30,8 +30,8 @@ pub(crate) fn arrange(memory: &mut [u64])
     ensures { memory.new ≡ arranged memory.old }
 {
     let n = row::len(memory).min(CARDS);
-    fill(memory, NUMBERS, 0, n, card_at);
+    fill(memory, NUMBERS, 0..n, card_at);
     sort_part(memory, NUMBERS.base as usize, (NUMBERS.base + n) as usize);
-    fill(memory, SPARE, 0, n, slot_at);
-    reseat(memory, 0, n);
+    fill(memory, SPARE, 0..n, slot_at);
+    Span::first(n).reseat(memory);
 }

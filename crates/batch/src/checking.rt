@@ -4,15 +4,9 @@ ghost use Rattle.row.specs.Lists.{any};
 ghost use Rattle.links.specs.Entries.{joins};
 ghost use Rattle.batch.specs.Checking.{all_found, known, repeated, widened, wider, spanned, no_span, span};
 
+use crate::seating::Span;
 use keeper::slots_of;
 use row::{CARDS, Link, place_at};
-
-// The places from `low` on, below `high`.
-#[derive(Clone, Copy)]
-pub(crate) struct Span {
-    pub low: u64,
-    pub high: u64,
-}
 
 // The places from the first card that some links name to the last; and whether one of the links goes backward.
 #[derive(Clone, Copy)]

@@ -4,10 +4,10 @@ ghost use Rattle.keeper.specs.Playing.{fronted};
 ghost use Rattle.batch.specs.Own.{said_anew};
 ghost use Rattle.batch.specs.Saying.{noting, told_span, part_aside, undone, brought, rearranged, said_several};
 
-use crate::checking::{Span, all_there, repeats, span_of};
+use crate::checking::{all_there, repeats, span_of};
 use crate::joining::{join_all, take_out};
 use crate::layout::BATCH;
-use crate::seating::{reseat, save};
+use crate::seating::Span;
 use crate::tidying::tidy;
 use keeper::{Act, Event, LINKS, MORE, MORE_FROM, MORE_TO, PENDING, ROUND, Reason, step};
 use row::{Link, Refusal, TALLY};
@@ -47,7 +47,7 @@ impl<'a> Saying<'a> {
         ensures { memory.new ≡ part_aside memory.old self.entry.span }
     {
         if let Some(span) = self.span {
-            save(memory, span.low, span.high);
+            span.save(memory);
         }
     }
 
@@ -58,7 +58,7 @@ impl<'a> Saying<'a> {
     {
         take_out(memory, self.links);
         if let Some(span) = self.span {
-            reseat(memory, span.low, span.high);
+            span.reseat(memory);
         }
     }
 
@@ -136,9 +136,6 @@ pub(crate) fn say_anew(memory: &mut [u64], out: &mut [u64]) -> Act
     if !tidy(memory) {
         return Act::Refused(Reason::Unfit);
     }
-    let all = Span {
-        low: 0,
-        high: row::len(memory),
-    };
+    let all = Span::first(row::len(memory));
     tell_span(memory, all, out)
 }

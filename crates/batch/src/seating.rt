@@ -6,21 +6,42 @@ use crate::layout::SPARE;
 use crate::listing::fill;
 use row::{CARDS, PLACES, SLOTS};
 
-// Puts the slots at the places from `low` on, below `high`, aside.
-pub(crate) fn save(memory: &mut [u64], low: u64, high: u64)
-    ensures { memory.new ≡ saved (min high 8192 - low) memory.old low }
-{
-    fill(memory, SPARE, low, high.min(CARDS), |memory, place| SLOTS.get(memory, place));
+// The places from `low` on, below `high`.
+#[derive(Clone, Copy)]
+pub(crate) struct Span {
+    pub low: u64,
+    pub high: u64,
 }
 
-// Gives the places from `low` on, below `high`, to the slots that were put aside for them.
-#[tactic(auto, using(crate::proofs::SeatSteps::steps))]
-pub(crate) fn reseat(memory: &mut [u64], low: u64, high: u64)
-    ensures { memory.new ≡ reseated (min high 8192 - low) memory.old low }
-{
-    for place in low..high.min(CARDS) {
-        let slot = SPARE.get(memory, place);
-        SLOTS.set(memory, place, slot);
-        PLACES.set(memory, slot, place);
+impl Span {
+    // The first n places.
+    pub fn first(n: u64) -> Span
+        ensures { result ≡ record { low = 0; high = n } }
+    {
+        Span { low: 0, high: n }
+    }
+
+    // Puts the slots at the places aside.
+    pub fn save(self, memory: &mut [u64])
+        ensures { memory.new ≡ saved (min self.high 8192 - self.low) memory.old self.low }
+    {
+        fill(
+            memory,
+            SPARE,
+            self.low..self.high.min(CARDS),
+            |memory, place| SLOTS.get(memory, place),
+        );
+    }
+
+    // Gives the places to the slots that were put aside for them.
+    #[tactic(auto, using(crate::proofs::SeatSteps::steps))]
+    pub fn reseat(self, memory: &mut [u64])
+        ensures { memory.new ≡ reseated (min self.high 8192 - self.low) memory.old self.low }
+    {
+        for place in self.low..self.high.min(CARDS) {
+            let slot = SPARE.get(memory, place);
+            SLOTS.set(memory, place, slot);
+            PLACES.set(memory, slot, place);
+        }
     }
 }

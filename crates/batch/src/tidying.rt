@@ -4,7 +4,7 @@ ghost use Rattle.batch.specs.Tidying.{tidied};
 
 use crate::arranging::arrange;
 use crate::renewing::renew;
-use crate::seating::reseat;
+use crate::seating::Span;
 use row::CARDS;
 
 // Makes the row anew by the rule, from the order of the cards' numbers on, and says whether all cards came: they do unless links go round.
@@ -18,6 +18,6 @@ pub(crate) fn tidy(memory: &mut [u64]) -> bool
     if n < row::len(memory).min(CARDS) {
         return false;
     }
-    reseat(memory, 0, n);
+    Span::first(n).reseat(memory);
     true
 }
