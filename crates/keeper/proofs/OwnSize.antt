@@ -27,7 +27,7 @@ use Rattle.search.proofs.Joining.{way_few}
 use Rattle.keeper.specs.declared.event.Event.{Event}
 use Rattle.keeper.specs.declared.event.Event.TheVariants.{Said, Next}
 use Rattle.keeper.specs.declared.event.Reason.TheVariants.{Idle, Busy, Board}
-use Rattle.keeper.specs.declared.event.Act.TheVariants.{Shows, Done, Refused}
+use Rattle.keeper.specs.declared.event.Act.TheVariants.{Shows, Done}
 use Rattle.keeper.specs.Engine.{action_of}
 use Rattle.keeper.specs.Promise.{all_small, small_command, Steady}
 use Rattle.keeper.specs.Sized.{small_event, KeepsSize, fits, Fits}
@@ -87,7 +87,7 @@ size_pending m m₁ k l b = size_written m m₁ tally 4 k (λ _. l) b
 abbrev pub Sized : List ℕ → Answer → Type 0
 Sized m a = KeepsSize m a.memory × (all_small m ≡ true → fits (action_of a.act a.numbers) ≡ true)
 
-refusal_fits : (e : Refusal) → fits (action_of (Refused (Board e)) []) ≡ true
+refusal_fits : (e : Refusal) → fits (action_of (Err (Board e)) []) ≡ true
 unfolding fits
 refusal_fits Missing = refl
 refusal_fits Exists = refl
@@ -95,7 +95,7 @@ refusal_fits Cycle = refl
 refusal_fits Full = refl
 
 module _ (m m₁ : List ℕ) (b : KeepsSize m m₁) where
-  pub sized_done : Sized m (quiet (ends Done m₁))
+  pub sized_done : Sized m (quiet (ends (Ok Done) m₁))
   unfolding fits
   sized_done = (b, λ _. refl)
 
@@ -137,7 +137,7 @@ sized_told m i j =
 
 -- numbers are shown
 abbrev shows_of : List ℕ → ℕ → List ℕ → Answer
-shows_of m n ks = record { act = Shows n; memory = m; numbers = ks }
+shows_of m n ks = record { act = Ok (Shows n); memory = m; numbers = ks }
 
 pub sized_shows : (m m₁ : List ℕ) (n : ℕ) (ks : List ℕ) → KeepsSize m m₁ → length ks ≤ 8192 → (all_small m ≡ true → all_small ks ≡ true) →
     Sized m (shows_of m₁ n ks)
@@ -201,7 +201,7 @@ sized_reordered m x b =
 sized_put : (m : List ℕ) (x : Link) → BothBelow (Some x) → Sized m (quiet (put_in m x))
 unfolding put_in
 sized_put m x b =
-    cond_both (leb 65536 (live m)) (refuses m Full) (ends Done (inserted m x)) (λ (e : Ended). Sized m (quiet e))
+    cond_both (leb 65536 (live m)) (refuses m Full) (ends (Ok Done) (inserted m x)) (λ (e : Ended). Sized m (quiet e))
     (λ _. sized_refuses m m (size_same m) Full) (λ _. sized_done m _ (size_inserted m x b))
 
 sized_linked : (m : List ℕ) (l : Link) → l.from < 18446744073709551616 → Sized m (linked m l)
@@ -241,7 +241,7 @@ sized_said m (Links l) h = sized_linked m l (ltb-true _ _ (and_parts (ltb l.from
 sized_said m (Unlinks l) h = sized_unlinked m l
 sized_said m (Places a b) h = sized_places m a b
 
-finished_fits : (a b : Bool) → fits (action_of (cond a Done (cond b (Refused (Board Cycle)) (Refused Idle))) []) ≡ true
+finished_fits : (a b : Bool) → fits (action_of (cond a (Ok Done) (cond b (Err (Board Cycle)) (Err Idle))) []) ≡ true
 unfolding fits
 finished_fits true b = refl
 finished_fits false true = refl
@@ -254,7 +254,7 @@ pub sized_on : (m : List ℕ) → Sized m (went_on m)
 unfolding went_on
 sized_on m = sized_cond m (eqb (pending m) 3) _ _ (sized_told m (cell m tally 5) (cell m tally 6)) (sized_finished m)
 
-pub sized_busy : (m : List ℕ) → Sized m (quiet (ends (Refused Busy) m))
+pub sized_busy : (m : List ℕ) → Sized m (quiet (ends (Err Busy) m))
 unfolding fits
 sized_busy m = (size_same m, λ _. refl)
 

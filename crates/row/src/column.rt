@@ -1,9 +1,9 @@
 // A column: a run of numbers in the lent memory. Whatever the index, reading or writing a column never leaves it, so a write to one column can't
 // disturb another.
-ghost use Rattle.row.specs.Columns.{cell, written};
+ghost use Rattle.row.specs.Columns.{cell, written, wiped};
 ghost use Rattle.std.specs.Prelude.{◌≡◌};
 
-#[derive(Clone, Copy)]
+#[derive(Clone, Copy, Debug, PartialEq, Eq)]
 pub struct Column {
     pub base: u64,
     pub size: u64,
@@ -30,5 +30,14 @@ impl Column {
             return;
         }
         memory[(self.base + i) as usize] = v;
+    }
+
+    // Puts 0 at each of the first `n`.
+    pub fn blank(self, memory: &mut [u64], n: u64)
+        ensures { memory.new ≡ wiped n memory.old self 0 }
+    {
+        for i in 0..n {
+            self.set(memory, i, 0);
+        }
     }
 }

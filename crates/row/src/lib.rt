@@ -14,7 +14,7 @@ mod theory;
 pub use board::{Command, Link, Refusal};
 pub use cards::{comes, goes, len, place_at, place_of};
 pub use column::Column;
-pub use keeping::{Reply, kept};
+pub use keeping::{Misfit, kept};
 pub use laws::{
     apart_stands, begins_stands, comes_appends_stands, depends_stands, else_stays_stands,
     finds_stands, goes_filters_stands, slots_named_stands, tells_stands,

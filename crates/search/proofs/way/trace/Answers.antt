@@ -8,10 +8,10 @@ use Rattle.search.proofs.way.trace.Goals as goal
 pub returns : goal.returns
 unfolding way
 returns c =
-    let l = c.follow-back.ensures.is in
-    let e = turned _ _ _ _ l _ _ c.follow-back.ensures.out c.reverse.ensures.after in
+    let l = c.show_trail-back.ensures.is in
+    let e = turned _ _ _ _ l _ _ c.show_trail-back.ensures.out c.reverse.ensures.after in
     let rest = λ (n : ℕ). trail (cell c.args.memory.now via) n c.args.link.from c.args.joint.to in
     record {
-      is = joined_length _ _ _ _ l rest _ e _ c.follow.ensures.is;
-      out = joined _ _ _ _ l rest _ e _ _ c.follow.ensures.out;
+      is = joined_length _ _ _ _ l rest _ e _ c.show_trail.ensures.is;
+      out = joined _ _ _ _ l rest _ e _ _ c.show_trail.ensures.out;
     }

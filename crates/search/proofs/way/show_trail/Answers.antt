@@ -1,6 +1,6 @@
 use Rattle.std.proofs.Common.{arith}
 use Rattle.search.proofs.Following.{walked_more, walked_last, walked_end}
-use Rattle.search.proofs.way.follow.Goals as goal
+use Rattle.search.proofs.way.show_trail.Goals as goal
 
 pub returns-then-slot-last : goal.returns-then-slot-last
 returns-then-slot-last c =
