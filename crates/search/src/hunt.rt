@@ -3,7 +3,7 @@
 // Forward from the first, backward from the second, and only among the places between them. What a search has come to is marked, and the marks are
 // its queue as well: since links lead to the right, all that it has yet to go on from is marked ahead of its cursor.
 ghost use Rattle.std.specs.Prelude.{◌≡◌};
-ghost use Rattle.search.specs.Hunt.{inside, sees, entered, taken, spreading, gone_on, idle, hunted, meeting};
+ghost use Rattle.search.specs.Hunt.{inside, sees, entered, taken, spreading, gone_on, front, idle, hunted, meeting};
 
 use crate::layout::VIA;
 use crate::side::Side;
@@ -114,6 +114,17 @@ pub(crate) struct Front {
 }
 
 impl Front {
+    // A search at its start, from a place.
+    fn starting(side: Side, place: u64) -> Front
+        ensures { result ≡ front side place }
+    {
+        Front {
+            side,
+            cursor: Some(place),
+            fuel: FUEL,
+        }
+    }
+
     // It has nothing to go on from.
     fn is_idle(self) -> bool
         ensures { result ≡ idle self }
@@ -176,15 +187,7 @@ pub fn meet(memory: &mut [u64], link: Link) -> Option<Link>
     let high = PLACES.get(memory, link.from);
     Side::Fore.marks().add(memory, low);
     Side::Hind.marks().add(memory, high);
-    let fore = Front {
-        side: Side::Fore,
-        cursor: Some(low),
-        fuel: FUEL,
-    };
-    let hind = Front {
-        side: Side::Hind,
-        cursor: Some(high),
-        fuel: FUEL,
-    };
+    let fore = Front::starting(Side::Fore, low);
+    let hind = Front::starting(Side::Hind, high);
     hunt(memory, Part { low, high }, fore, hind)
 }

@@ -35,10 +35,9 @@ fn trace(memory: &[u64], link: Link, joint: Link, out: &mut [u64]) -> usize
     ensures is { result ≡ length (way (cell memory.now via) (length out.old) link joint) }
     ensures out { out.new ≡ over memory.now (way (cell memory.now via) (length out.old) link joint) result out.old }
 {
-    let n = out.len();
     let back = show_trail(memory, VIA, joint.from, link.to, out);
-    out[0..back].reverse();
-    back + show_trail(memory, VIA, joint.to, link.from, &mut out[back..n])
+    out[..back].reverse();
+    back + show_trail(memory, VIA, joint.to, link.from, &mut out[back..])
 }
 
 // Shows the way from `link.to` on to `link.from` that goes by the link `joint`, where the searches met: the numbers of its cards are written to the
@@ -51,7 +50,7 @@ pub fn show(memory: &[u64], link: Link, joint: Link, out: &mut [u64]) -> u64
     if out.len() < room {
         return 0;
     }
-    trace(memory, link, joint, &mut out[0..room]) as u64
+    trace(memory, link, joint, &mut out[..room]) as u64
 }
 
 // Shows the way as `show` does, and forgets the search that found it.
