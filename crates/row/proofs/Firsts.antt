@@ -1,36 +1,18 @@
--- The first of two cards that is met in a row stands before the other, and the steps of the loop that meets it; the links that numbers spell, as pairs.
-use Rattle.std.proofs.Common.{◌≡◌, ℕ, zero, suc, ◌+◌, ◌*◌, ◌/◌, ◌<◌, ◌≤◌, Bool, true, false, cond, not, eqb, ltb, List, [], ◌∷◌, length, get_or, drop, slice_index, Some, None, refl, ◌∙◌, arith}
+-- The first of two cards that is met in a row stands before the other; the links that numbers spell, as pairs.
+use Rattle.std.proofs.Common.{◌≡◌, ℕ, zero, suc, ◌+◌, ◌*◌, ◌/◌, ◌<◌, ◌≤◌, Bool, false, cond, not, ◌||◌, eqb, ltb, List, [], ◌∷◌, length, get_or, drop, slice_index, Some, None, refl, ap, ◌∙◌, arith}
 use Rattle.std.proofs.lemmas.Bool.Decides.{nat_tests}
-use Rattle.std.proofs.lemmas.List.{at_drop_more, at_drop_all}
-use Rattle.std.specs.List.{position_or_len}
+use Rattle.std.proofs.lemmas.List.{drop_more}
+use Rattle.std.specs.List.{find, position_or_len}
 use Rattle.std.specs.Simd.{first_chunks}
 use Rattle.row.specs.Lists.{place}
+use Rattle.row.specs.Lookup.{given}
 use Rattle.row.specs.Kept.{before, links_of, broken_pair, first_broken}
 
--- a card x is met: it is the second, the first, or none of the two
-met : (x : ℕ) (xs : List ℕ) (a b : ℕ) → before (x ∷ xs) a b ≡ cond (eqb x b) false (cond (eqb x a) true (before xs a b))
+-- the first of the two decides
+pub first_met : (row : List ℕ) (a b : ℕ) → before row a b ≡ given (find (λ x. eqb x a || eqb x b) row) false (λ x. not (eqb x b))
 unfolding before place
-met x xs a b = grind (arith, nat_tests)
-
-met_at : (row : List ℕ) (i a b : ℕ) → i < length row →
-    before (drop i row) a b ≡ cond (eqb (get_or row i 0) b) false (cond (eqb (get_or row i 0) a) true (before (drop (i + 1) row) a b))
-met_at row i a b h = at_drop_more (λ xs. before xs a b) row i 0 h ∙ met (get_or row i 0) (drop (i + 1) row) a b
-
-pub met_second : (row : List ℕ) (i a b : ℕ) → i < length row → get_or row i 0 ≡ b → before (drop i row) a b ≡ false
-met_second row i a b h e = let s = met_at row i a b h in grind (arith, nat_tests)
-
-pub met_first : (row : List ℕ) (i a b : ℕ) → i < length row → (get_or row i 0 ≡ b → ⊥) → get_or row i 0 ≡ a → before (drop i row) a b ≡ true
-met_first row i a b h n e = let s = met_at row i a b h in grind (arith, nat_tests)
-
-pub met_none : (row : List ℕ) (i a b : ℕ) → i < length row → (get_or row i 0 ≡ b → ⊥) → (get_or row i 0 ≡ a → ⊥) →
-    before (drop i row) a b ≡ before (drop (i + 1) row) a b
-met_none row i a b h n e = let s = met_at row i a b h in grind (arith, nat_tests)
-
-pub met_end : (row : List ℕ) (i a b : ℕ) → length row ≤ i → before (drop i row) a b ≡ false
-unfolding before place
-met_end row i a b h = at_drop_all (λ xs. before xs a b) row i h
-
-pub ruleset meets = (met_second, met_first, met_none, met_end)
+first_met [] a b = refl
+first_met (x ∷ row) a b = let ih = first_met row a b in grind (arith, nat_tests)
 
 -- the pairs of the numbers are their links
 module _ (row : List ℕ) where
@@ -51,3 +33,10 @@ module _ (row : List ℕ) where
 
   pub pairs_are : (ns : List ℕ) → broken_pair row (first_chunks 2 (length ns / 2) ns) ≡ first_broken row (links_of ns) 0
   pairs_are ns = let e = pairs_from (length ns / 2) ns 0 (omega arith) (omega arith) in grind arith
+
+pub two_at : (ns : List ℕ) (i : ℕ) → i < length ns / 2 → drop (2 * i) ns ≡ get_or ns (2 * i) 0 ∷ get_or ns (2 * i + 1) 0 ∷ drop (2 * (i + 1)) ns
+two_at ns i h =
+    let e : 2 * i + 1 + 1 ≡ 2 * (i + 1) = omega arith in
+    drop_more ns (2 * i) 0 (omega arith)
+    ∙ ap (λ (xs : List ℕ). get_or ns (2 * i) 0 ∷ xs) (drop_more ns (2 * i + 1) 0 (omega arith))
+    ∙ ap (λ (k : ℕ). get_or ns (2 * i) 0 ∷ get_or ns (2 * i + 1) 0 ∷ drop k ns) e

@@ -11,6 +11,7 @@ pub struct Column {
 
 impl Column {
     // What stands at `i`, or 0 past the column's end.
+    #[tactic(auto, using(std::proofs::lemmas::List::get_or_past), unfolding(crate::specs::Columns::cell))]
     pub fn get(self, memory: &[u64], i: u64) -> u64
         ensures { result ≡ cell memory.now self i }
     {
@@ -22,6 +23,7 @@ impl Column {
     }
 
     // Puts `v` at `i`; nothing past the column's end.
+    #[tactic(auto, using(std::proofs::lemmas::List::set_past), unfolding(crate::specs::Columns::written))]
     pub fn set(self, memory: &mut [u64], i: u64, v: u64)
         ensures { memory.new ≡ written memory.old self i v }
     {
@@ -33,6 +35,7 @@ impl Column {
     }
 
     // Puts 0 at each of the first `n`.
+    #[tactic(auto, using(crate::proofs::Wiping::wipes))]
     pub fn blank(self, memory: &mut [u64], n: u64)
         ensures { memory.new ≡ wiped n memory.old self 0 }
     {

@@ -28,15 +28,9 @@ const MOST: usize = 65536;
 fn before(row: &[u64], from: u64, to: u64) -> bool
     ensures { result ≡ before row.now from to }
 {
-    for card in row {
-        if *card == to {
-            return false;
-        }
-        if *card == from {
-            return true;
-        }
-    }
-    false
+    row.iter()
+        .find(|card| **card == from || **card == to)
+        .is_some_and(|card| *card != to)
 }
 
 // The number of the first link that the row doesn't keep.
