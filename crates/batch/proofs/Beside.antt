@@ -6,6 +6,7 @@ use Rattle.row.specs.Columns.{cell, written, apart}
 use Rattle.row.specs.Layout.{slots, places}
 use Rattle.row.proofs.Cells.{length_written, cell_apart}
 use Rattle.links.specs.Layout.{froms, tos}
+use Rattle.row.specs.Columns.{wiped}
 use Rattle.links.specs.Building.{blanked}
 use Rattle.search.specs.Layout.{fore}
 use Rattle.search.specs.Marks.{added}
@@ -49,7 +50,7 @@ module _ (T : Column → Type 0) where
   beside_only c m n off o = record { as_long = o.long; others = λ d j t. o.others d j (off d t); small = o.small }
 
   pub beside_blanked : (f : ℕ) (m : List ℕ) (c : Column) (i : ℕ) → Off T c → Beside T m (blanked f m c i)
-  unfolding blanked
+  unfolding blanked wiped
   beside_blanked zero m c i off = beside_same m
   beside_blanked (suc f) m c i off =
       let m₁ = written m c i 0 in

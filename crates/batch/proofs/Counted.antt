@@ -1,5 +1,5 @@
 -- Each answer of the engine comes with the numbers that it speaks of: as many as are shown, and none where nothing is shown or told.
-use Rattle.std.proofs.Common.{◌≡◌, ℕ, ◌≤◌, Bool, true, false, cond, eqb, ltb, leb, List, [], length, refl, arith, Option}
+use Rattle.std.proofs.Common.{Ok, Err, Result, ◌≡◌, ℕ, ◌≤◌, Bool, true, false, cond, eqb, ltb, leb, List, [], length, refl, arith, Option}
 use Rattle.std.proofs.lemmas.Bool.{cond_both}
 use Rattle.row.specs.declared.board.Command.{Command}
 use Rattle.row.specs.declared.board.Command.TheVariants.{Comes, Goes, Link as Links, Unlink as Unlinks, Places}
@@ -14,9 +14,10 @@ use Rattle.links.specs.Removing.{removed}
 use Rattle.search.specs.Hunt.{meeting}
 use Rattle.keeper.specs.declared.event.Event.{Event}
 use Rattle.keeper.specs.declared.event.Event.TheVariants.{Said, Next}
+use Rattle.keeper.specs.declared.event.Reason.{Reason}
 use Rattle.keeper.specs.declared.event.Reason.TheVariants.{Idle, Board}
 use Rattle.keeper.specs.declared.event.Act.{Act}
-use Rattle.keeper.specs.declared.event.Act.TheVariants.{Tells, Shows, Done, Refused}
+use Rattle.keeper.specs.declared.event.Act.TheVariants.{Tells, Shows, Done}
 use Rattle.keeper.specs.Answers.{Answer, Ended, quiet, pending}
 use Rattle.keeper.specs.Telling.{told_part}
 use Rattle.keeper.specs.Reordering.{shown_round, moved, reordered}
@@ -32,11 +33,11 @@ use Rattle.batch.specs.Tidying.{tidied}
 use Rattle.batch.specs.Engine.{one, several, anew, Heard, said, next}
 use Rattle.batch.specs.Own.{said_anew, when_idle, answer}
 
-abbrev pub CountedBy : Act → List ℕ → Type 0
-CountedBy (Tells p n) ks = n ≤ 4096
-CountedBy (Shows n) ks = length ks ≡ n
-CountedBy Done ks = ks ≡ []
-CountedBy (Refused e) ks = ks ≡ []
+abbrev pub CountedBy : Result Act Reason → List ℕ → Type 0
+CountedBy (Ok (Tells p n)) ks = n ≤ 4096
+CountedBy (Ok (Shows n)) ks = length ks ≡ n
+CountedBy (Ok Done) ks = ks ≡ []
+CountedBy (Err e) ks = ks ≡ []
 
 abbrev pub Counted : Answer → Type 0
 Counted a = CountedBy a.act a.numbers
@@ -53,7 +54,7 @@ counted_told : (m : List ℕ) (i j : ℕ) → Counted (told_part m i j)
 unfolding told_part
 counted_told m i j = omega arith
 
-quiet_finished : (a b : Bool) → CountedBy (cond a Done (cond b (Refused (Board Cycle)) (Refused Idle))) []
+quiet_finished : (a b : Bool) → CountedBy (cond a (Ok Done) (cond b (Err (Board Cycle)) (Err Idle))) []
 quiet_finished true b = refl
 quiet_finished false true = refl
 quiet_finished false false = refl

@@ -1,6 +1,7 @@
 pub mod Trying
 pub mod Checks
 pub mod SayingSteps
+pub mod Room
 pub mod Beginnings
 pub mod PlayedOn
 pub mod Joins

@@ -1,5 +1,5 @@
 -- Several links said at once keep the size of the memory, whatever stands there, and what is answered fits what carries it.
-use Rattle.std.proofs.Common.{◌≡◌, ℕ, ◌+◌, ◌-◌, ◌<◌, ◌≤◌, min, true, eqb, ltb, leb, List, [], ◌∷◌, length, take, Some, None, Option, arith}
+use Rattle.std.proofs.Common.{Ok, ◌≡◌, ℕ, ◌+◌, ◌-◌, ◌<◌, ◌≤◌, min, true, eqb, ltb, leb, List, [], ◌∷◌, length, take, Some, None, Option, arith}
 use lib.ListN.{length-map}
 use Rattle.std.proofs.lemmas.Bool.{and_parts, ltb-true, cond_both}
 use Rattle.row.specs.declared.board.Command.TheVariants.{Link as Links}
@@ -140,7 +140,7 @@ unfolding undone
 size_undone m None b ls = size_taken_out m ls
 size_undone m (Some s) b ls = size_reseated m s b ls
 
-sized_part : (m : List ℕ) (o : Option Span) (b : BoundedPart o) → Sized m (given o (quiet (ends Done m)) (λ s. told_span m s))
+sized_part : (m : List ℕ) (o : Option Span) (b : BoundedPart o) → Sized m (given o (quiet (ends (Ok Done) m)) (λ s. told_span m s))
 sized_part m None b = sized_done m m (size_same m)
 sized_part m (Some s) b = sized_told_span m s b
 

@@ -9,7 +9,7 @@
 --   by_trial t ls o       one or the other, by how the links were tried
 --   rearranged m ls o     the links tried, with the part of the row put aside
 --   said_several m ls     the links said at once, when nothing is pending
-use Rattle.std.specs.Prelude.{ℕ, ◌-◌, min, cond, List, [], length, take, Option, nat_le}
+use Rattle.std.specs.Prelude.{ℕ, ◌-◌, min, cond, List, [], length, take, Ok, Option, nat_le}
 use Rattle.row.specs.declared.board.Link.{Link}
 use Rattle.row.specs.declared.board.Refusal.TheVariants.{Missing, Exists, Full}
 use Rattle.row.specs.Columns.{written}
@@ -38,10 +38,10 @@ undone m ls o = given o (taken_out m ls) (λ s. reseated (min s.high 8192 - s.lo
 
 unfoldable pub brought : List ℕ → List Link → Option Span → Answer
 brought m ls o =
-    cond (nat_le (live m) 65536) (given o (quiet (ends Done m)) (λ s. told_span m s)) (quiet (refuses (undone m ls o) Full))
+    cond (nat_le (live m) 65536) (given o (quiet (ends (Ok Done) m)) (λ s. told_span m s)) (quiet (refuses (undone m ls o) Full))
 
 abbrev pub closed : List ℕ → List Link → Option Span → List ℕ → Answer
-closed m ls o ks = record { act = Shows (length ks); memory = leaves_pending (undone m ls o) 2; numbers = ks }
+closed m ls o ks = record { act = Ok (Shows (length ks)); memory = leaves_pending (undone m ls o) 2; numbers = ks }
 
 unfoldable pub by_trial : Tried → List Link → Option Span → Answer
 by_trial t ls o = given t.way (brought t.memory ls o) (closed t.memory (take t.count ls) o)

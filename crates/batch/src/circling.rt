@@ -9,13 +9,10 @@ ghost use Rattle.search.specs.Way.{trail, over};
 ghost use Rattle.batch.specs.Layout.{numbers};
 ghost use Rattle.batch.specs.Circling.{flagged, stays, noted, notes, traced, start, back, round};
 
-use crate::layout::{ENTRIES, LEAVES, NUMBERS, SPARE};
-use crate::renewing::blank;
-use links::{from_of, to_of};
-use row::{CARDS, IDS, SLOTS, TALLY};
-
-// In TALLY: how many entries of the table of links are in use.
-const END: u64 = 3;
+use crate::layout::{LEAVES, NUMBERS, SPARE};
+use links::{END, ENTRIES, from_of, to_of};
+use row::{CARDS, SLOTS, TALLY};
+use search::show_trail;
 
 // Notes of the first n slots in SPARE that they have come.
 #[tactic(auto, using(crate::proofs::CircleSteps::notes))]
@@ -59,11 +56,11 @@ fn note_all(memory: &mut [u64])
 }
 
 // Notes all that, after n slots have come.
-#[tactic(auto, unfolding(crate::specs::Circling::traced))]
+#[tactic(auto, unfolding(crate::specs::Circling::traced, links::specs::Building::blanked))]
 fn trace(memory: &mut [u64], n: u64)
     ensures { memory.new ≡ traced memory.old n }
 {
-    blank(memory, LEAVES);
+    LEAVES.blank(memory, CARDS);
     flag(memory, n);
     note_all(memory);
 }
@@ -94,23 +91,6 @@ fn go_back(memory: &[u64], first: u64) -> u64
     slot
 }
 
-// Writes the cards from that of `first` on, step by step back, up to that of `last`, to the front of `out`, no more than it has room for; says how many.
-fn follow(memory: &[u64], first: u64, last: u64, out: &mut [u64]) -> usize
-    ensures is { result ≡ length (trail (cell memory.now numbers) (length out.old) last first) }
-    ensures out { out.new ≡ over memory.now (trail (cell memory.now numbers) (length out.old) last first) result out.old }
-    ensures within { result ≤ length out.old }
-{
-    let mut slot = first;
-    for i in 0..out.len() {
-        out[i] = IDS.get(memory, slot);
-        if slot == last {
-            return i + 1;
-        }
-        slot = NUMBERS.get(memory, slot);
-    }
-    out.len()
-}
-
 // Writes the cards of a circle to the front of `out`, each linked to the next, after n slots have come; says how many.
 pub(crate) fn show_circle(memory: &mut [u64], n: u64, out: &mut [u64]) -> u64
     ensures is { result ≡ length (round (traced memory.old n) (length out.old)) }
@@ -119,7 +99,7 @@ pub(crate) fn show_circle(memory: &mut [u64], n: u64, out: &mut [u64]) -> u64
 {
     trace(memory, n);
     let last = go_back(memory, first_left(memory));
-    let len = follow(memory, NUMBERS.get(memory, last), last, out);
-    out[0..len].reverse();
+    let len = show_trail(memory, NUMBERS, NUMBERS.get(memory, last), last, out);
+    out[..len].reverse();
     len as u64
 }

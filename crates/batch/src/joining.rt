@@ -1,14 +1,13 @@
 // Links are tried one after the other, and taken out again.
 ghost use Rattle.std.specs.Prelude.{◌≡◌, ◌≤◌, length, IfErr};
 ghost use Rattle.keeper.specs.Playing.{fronted};
-ghost use Rattle.keeper.specs.Reordering.{round_cards};
-ghost use Rattle.search.specs.Settle.{forgotten};
 ghost use Rattle.batch.specs.Joining.{joined_slots, joined, tried, dropped, taken_out, unless, way_count, way_cards, round_of};
 
+use crate::layout::Output;
 use keeper::slots_of;
 use links::{insert, remove};
 use row::{Link, place_at};
-use search::{forget, meet, settle, show};
+use search::{meet, settle, show_and_forget};
 
 // A link would go round: how many were put in before it, and how many cards at the front of the output are the way.
 #[derive(Clone, Copy)]
@@ -17,31 +16,17 @@ pub(crate) struct Round {
     pub shown: u64,
 }
 
-// Shows the cards of the way by which the link would go round, after the searches met, and forgets the search.
-#[tactic(auto, using(search::proofs::Joining::shown_is), unfolding(keeper::specs::Reordering::round_cards))]
-fn show_round(memory: &mut [u64], slots: Link, joint: Link, out: &mut [u64]) -> u64
-    requires { 8192 ≤ length out.old }
-    ensures is { result ≡ length (round_cards memory.old slots joint) }
-    ensures after { memory.new ≡ forgotten memory.old }
-    ensures out { out.new ≡ fronted (round_cards memory.old slots joint) out.old }
-{
-    let n = show(memory, slots, joint, out);
-    forget(memory);
-    n
-}
-
 // Puts a link between slots in, with the row settled for it if it goes backward. If it would go round, says how many cards the way has, which is written
 // to the front of `out`.
-#[tactic(auto, unfolding(crate::specs::Joining::joined_slots))]
-fn join_slots(memory: &mut [u64], slots: Link, out: &mut [u64]) -> Result<(), u64>
-    requires { 8192 ≤ length out.old }
+#[tactic(auto, using(search::proofs::Joining::shown_is), unfolding(crate::specs::Joining::joined_slots, keeper::specs::Reordering::round_cards))]
+fn join_slots(memory: &mut [u64], slots: Link, out: &mut Output) -> Result<(), u64>
     ensures is { result ≡ unless (way_count (joined_slots memory.old slots).way) }
     ensures after { memory.new ≡ (joined_slots memory.old slots).memory }
     ensures out { out.new ≡ fronted (way_cards (joined_slots memory.old slots).way) out.old }
 {
     if place_at(memory, slots.to) < place_at(memory, slots.from) {
         if let Some(joint) = meet(memory, slots) {
-            return Err(show_round(memory, slots, joint, out));
+            return Err(show_and_forget(memory, slots, joint, out));
         }
         settle(memory);
     }
@@ -51,8 +36,7 @@ fn join_slots(memory: &mut [u64], slots: Link, out: &mut [u64]) -> Result<(), u6
 
 // The same for a link between cards. A card before itself goes round: it is the way alone.
 #[tactic(auto, unfolding(crate::specs::Joining::joined))]
-fn join(memory: &mut [u64], link: Link, out: &mut [u64]) -> Result<(), u64>
-    requires { 8192 ≤ length out.old }
+fn join(memory: &mut [u64], link: Link, out: &mut Output) -> Result<(), u64>
     ensures is { result ≡ unless (way_count (joined memory.old link).way) }
     ensures after { memory.new ≡ (joined memory.old link).memory }
     ensures out { out.new ≡ fronted (way_cards (joined memory.old link).way) out.old }
@@ -68,8 +52,7 @@ fn join(memory: &mut [u64], link: Link, out: &mut [u64]) -> Result<(), u64>
 }
 
 // Tries the links one after the other, up to the first that goes round.
-pub(crate) fn join_all(memory: &mut [u64], batch: &[Link], out: &mut [u64]) -> Result<(), Round>
-    requires { 8192 ≤ length out.old }
+pub(crate) fn join_all(memory: &mut [u64], batch: &[Link], out: &mut Output) -> Result<(), Round>
     ensures is { result ≡ unless (round_of (tried memory.old batch.now 0)) }
     ensures within { IfErr result (λ round. round.count ≤ length batch.now) }
     ensures after { memory.new ≡ (tried memory.old batch.now 0).memory }

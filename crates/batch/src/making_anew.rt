@@ -63,8 +63,6 @@ pub fn make_anew(
     if memory.len() != MEMORY || out.len() < OUTPUT {
         return Err(Reason::Unfit);
     }
-    if let Err(refusal) = load(memory, row, links) {
-        return Err(Reason::Board(refusal));
-    }
+    load(memory, row, links)?;
     Ok(finish(memory, out))
 }

@@ -7,31 +7,21 @@ ghost use Rattle.row.specs.Layout.{count};
 ghost use Rattle.links.specs.Layout.{live};
 ghost use Rattle.links.specs.declared.chain.Chain.TheVariants.{Out};
 ghost use Rattle.links.specs.Chains.{met, stepped};
-ghost use Rattle.links.specs.Building.{blanked};
 ghost use Rattle.batch.specs.Renewing.{raised, counted, counts, freed, frees, cleared, prepared};
 ghost use Rattle.batch.specs.Renewing.{lessened, next_by, left_by, released, let_go, drawn, renewed};
 
-use crate::layout::{ENTRIES, LEAVES, SPARE, WAITS};
-use links::{Chain, Meeting, from_of, rebuild, step, to_of};
+use crate::layout::{LEAVES, SPARE, WAITS};
+use links::{Chain, ENTRIES, Meeting, from_of, rebuild, step, to_of};
 use row::{CARDS, Column, PLACES, SLOTS};
 use search::FORE;
 
-// Sets a column of counts to 0.
-pub(crate) fn blank(memory: &mut [u64], counts: Column)
-    ensures { memory.new ≡ blanked 8192 memory.old counts 0 }
-{
-    for slot in 0..CARDS {
-        counts.set(memory, slot, 0);
-    }
-}
-
-// Sets both to 0.
-#[tactic(auto, unfolding(crate::specs::Renewing::cleared))]
+// Nothing is counted.
+#[tactic(auto, unfolding(crate::specs::Renewing::cleared, links::specs::Building::blanked))]
 fn clear(memory: &mut [u64])
     ensures { memory.new ≡ cleared memory.old }
 {
-    blank(memory, WAITS);
-    blank(memory, LEAVES);
+    WAITS.blank(memory, CARDS);
+    LEAVES.blank(memory, CARDS);
 }
 
 // Counts one more for a slot.

@@ -1,36 +1,27 @@
 // Several links are said at once, or the row is made anew.
-ghost use Rattle.std.specs.Prelude.{◌≡◌, ◌≤◌, length};
-ghost use Rattle.keeper.specs.Playing.{fronted};
+ghost use Rattle.std.specs.Prelude.{◌≡◌};
+ghost use Rattle.keeper.specs.Answers.{Gives};
 ghost use Rattle.batch.specs.Own.{said_anew};
-ghost use Rattle.batch.specs.Saying.{noting, told_span, part_aside, undone, brought, rearranged, said_several};
+ghost use Rattle.batch.specs.Saying.{told_span, part_aside, undone, brought, rearranged, said_several};
 
 use crate::checking::{all_there, repeats, span_of};
 use crate::joining::{join_all, take_out};
-use crate::layout::BATCH;
+use crate::layout::{BATCH, Memory, Output};
 use crate::seating::Span;
 use crate::tidying::tidy;
-use keeper::{Act, Event, LINKS, MORE, MORE_FROM, MORE_TO, PENDING, ROUND, Reason, step};
-use row::{Link, Refusal, TALLY};
-
-// Notes that the part of the row is still to be told.
-#[tactic(auto, unfolding(crate::specs::Saying::noting))]
-fn note(memory: &mut [u64], span: Span)
-    ensures { memory.new ≡ noting memory.old span }
-{
-    TALLY.set(memory, PENDING, MORE);
-    TALLY.set(memory, MORE_FROM, span.low);
-    TALLY.set(memory, MORE_TO, span.high);
-}
+use keeper::{Act, LINKS, Pending, Reason};
+use row::{Link, Refusal};
 
 // Tells the part of the row.
-fn tell_span(memory: &mut [u64], span: Span, out: &mut [u64]) -> Act
-    requires { (length memory.old ≡ 524288) × (8192 ≤ length out.old) }
-    ensures act { result ≡ (told_span memory.old span).act }
-    ensures after { memory.new ≡ (told_span memory.old span).memory }
-    ensures out { out.new ≡ fronted (told_span memory.old span).numbers out.old }
+fn tell_span(memory: &mut Memory, span: Span, out: &mut Output) -> Result<Act, Reason>
+    ensures { Gives (told_span memory.old span) out.old result memory.new out.new }
 {
-    note(memory, span);
-    step(memory, Event::Next, out)
+    let more = Pending::More {
+        from: span.low,
+        to: span.high,
+    };
+    more.note(memory);
+    keeper::step(memory, keeper::Event::Next, out)
 }
 
 // Links that are said at once, and the part of the row that may change for them; none, if the row keeps them already.
@@ -64,28 +55,22 @@ impl<'a> Saying<'a> {
 
     // All links are in: tells the part of the row that may have changed; but if there are too many, all is as it was.
     #[tactic(auto, unfolding(crate::specs::Saying::brought))]
-    fn bring(self, memory: &mut [u64], out: &mut [u64]) -> Act
-        requires { (length memory.old ≡ 524288) × (8192 ≤ length out.old) }
-        ensures act { result ≡ (brought memory.old self.entry.links.now self.entry.span).act }
-        ensures after { memory.new ≡ (brought memory.old self.entry.links.now self.entry.span).memory }
-        ensures out { out.new ≡ fronted (brought memory.old self.entry.links.now self.entry.span).numbers out.old }
+    fn bring(self, memory: &mut Memory, out: &mut Output) -> Result<Act, Reason>
+        ensures { Gives (brought memory.old self.entry.links.now self.entry.span) out.old result memory.new out.new }
     {
         if links::len(memory) > LINKS {
             self.undo(memory);
-            return Act::Refused(Reason::Board(Refusal::Full));
+            return Err(Refusal::Full.into());
         }
         let Some(span) = self.span else {
-            return Act::Done;
+            return Ok(Act::Done);
         };
         tell_span(memory, span, out)
     }
 
     // Tries the links: the row is put right for all of them, or all is as it was.
-    fn rearrange(self, memory: &mut [u64], out: &mut [u64]) -> Act
-        requires { (length memory.old ≡ 524288) × (8192 ≤ length out.old) }
-        ensures act { result ≡ (rearranged memory.old self.entry.links.now self.entry.span).act }
-        ensures after { memory.new ≡ (rearranged memory.old self.entry.links.now self.entry.span).memory }
-        ensures out { out.new ≡ fronted (rearranged memory.old self.entry.links.now self.entry.span).numbers out.old }
+    fn rearrange(self, memory: &mut Memory, out: &mut Output) -> Result<Act, Reason>
+        ensures { Gives (rearranged memory.old self.entry.links.now self.entry.span) out.old result memory.new out.new }
     {
         self.save(memory);
         let Err(round) = join_all(memory, self.links, out) else {
@@ -96,27 +81,28 @@ impl<'a> Saying<'a> {
             span: self.span,
         };
         tried.undo(memory);
-        TALLY.set(memory, PENDING, ROUND);
-        Act::Shows(round.shown)
+        Pending::Round.note(memory);
+        Ok(Act::Shows(round.shown))
     }
 }
 
 // Says the links at once.
 #[tactic(auto, unfolding(crate::specs::Saying::said_several))]
-pub(crate) fn say_several(memory: &mut [u64], batch: &[Link], out: &mut [u64]) -> Act
-    requires { (length memory.old ≡ 524288) × (8192 ≤ length out.old) }
-    ensures act { result ≡ (said_several memory.old batch.now).act }
-    ensures after { memory.new ≡ (said_several memory.old batch.now).memory }
-    ensures out { out.new ≡ fronted (said_several memory.old batch.now).numbers out.old }
+pub(crate) fn say_several(
+    memory: &mut Memory,
+    batch: &[Link],
+    out: &mut Output,
+) -> Result<Act, Reason>
+    ensures { Gives (said_several memory.old batch.now) out.old result memory.new out.new }
 {
     if batch.len() > BATCH {
-        return Act::Refused(Reason::Board(Refusal::Full));
+        return Err(Refusal::Full.into());
     }
     if !all_there(memory, batch) {
-        return Act::Refused(Reason::Board(Refusal::Missing));
+        return Err(Refusal::Missing.into());
     }
     if repeats(memory, batch) {
-        return Act::Refused(Reason::Board(Refusal::Exists));
+        return Err(Refusal::Exists.into());
     }
     let saying = Saying {
         links: batch,
@@ -127,14 +113,11 @@ pub(crate) fn say_several(memory: &mut [u64], batch: &[Link], out: &mut [u64]) -
 
 // Makes the row anew, from the order of the cards' numbers, and tells all of it. A memory whose links go round isn't a keeper's.
 #[tactic(auto, unfolding(crate::specs::Own::said_anew))]
-pub(crate) fn say_anew(memory: &mut [u64], out: &mut [u64]) -> Act
-    requires { (length memory.old ≡ 524288) × (8192 ≤ length out.old) }
-    ensures act { result ≡ (said_anew memory.old).act }
-    ensures after { memory.new ≡ (said_anew memory.old).memory }
-    ensures out { out.new ≡ fronted (said_anew memory.old).numbers out.old }
+pub(crate) fn say_anew(memory: &mut Memory, out: &mut Output) -> Result<Act, Reason>
+    ensures { Gives (said_anew memory.old) out.old result memory.new out.new }
 {
     if !tidy(memory) {
-        return Act::Refused(Reason::Unfit);
+        return Err(Reason::Unfit);
     }
     let all = Span::first(row::len(memory));
     tell_span(memory, all, out)

@@ -1,4 +1,4 @@
-use Rattle.std.proofs.Common.{ℕ, List, take, sym, ap, ◌∙◌, ap₂}
+use Rattle.std.proofs.Common.{ℕ, List, take, Ok, sym, ap, ◌∙◌, ap₂}
 use Rattle.keeper.specs.declared.event.Act.TheVariants.{Shows}
 use Rattle.keeper.specs.Answers.{Answer, leaves_pending}
 use Rattle.keeper.specs.Playing.{fronted}
@@ -36,9 +36,9 @@ returns c =
     let w = one_round t c.in-Err.round (sym j.is ∙ c.in-Err.is) in
     let e = sym (trial_round t ls o w.0 w.1) ∙ ap (λ (m : List ℕ). by_trial (tried m ls 0) ls o) c.save.ensures in
     record {
-      act = ap (λ (x : Round). Shows x.shown) w.2 ∙ ap (λ (a : Answer). a.act) e;
+      act = ap (λ (x : Round). Ok (Shows x.shown)) w.2 ∙ ap (λ (a : Answer). a.act) e;
       after =
-          c.set.ensures
+          c.note.ensures
           ∙ ap (λ (m : List ℕ). leaves_pending m 2) (c.undo.ensures ∙ ap₂ (λ (m : List ℕ) (x : Round). undone m (take x.count ls) o) j.after w.2)
           ∙ ap (λ (a : Answer). a.memory) e;
       out = j.out ∙ ap (λ o. fronted (way_cards o) c.args.out.now) w.1 ∙ ap (λ (a : Answer). fronted a.numbers c.args.out.now) e;
