@@ -4,9 +4,9 @@ ghost use Rattle.batch.specs.Arranging.{card_at, slot_at, arranged};
 
 use crate::layout::{NUMBERS, SPARE};
 use crate::listing::fill;
-use crate::seating::Span;
+use crate::seating::{Span, row_len};
 use crate::sorting::sort_part;
-use row::{CARDS, IDS, SLOTS, find};
+use row::{IDS, SLOTS, find};
 
 // The number of the card at a place.
 #[tactic(auto, unfolding(crate::specs::Arranging::card_at))]
@@ -29,7 +29,7 @@ fn slot_at(memory: &[u64], i: u64) -> u64
 pub(crate) fn arrange(memory: &mut [u64])
     ensures { memory.new ≡ arranged memory.old }
 {
-    let n = row::len(memory).min(CARDS);
+    let n = row_len(memory);
     fill(memory, NUMBERS, 0..n, card_at);
     sort_part(memory, NUMBERS.base as usize, (NUMBERS.base + n) as usize);
     fill(memory, SPARE, 0..n, slot_at);

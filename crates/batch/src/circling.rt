@@ -10,6 +10,7 @@ ghost use Rattle.batch.specs.Layout.{numbers};
 ghost use Rattle.batch.specs.Circling.{flagged, stays, noted, notes, traced, start, back, round};
 
 use crate::layout::{LEAVES, NUMBERS, SPARE};
+use crate::seating::row_len;
 use links::{END, ENTRIES, from_of, to_of};
 use row::{CARDS, SLOTS, TALLY};
 use search::show_trail;
@@ -66,29 +67,20 @@ fn trace(memory: &mut [u64], n: u64)
 }
 
 // The first slot in the row that hasn't come.
-#[tactic(auto, using(crate::proofs::CircleSteps::seeks))]
 fn first_left(memory: &[u64]) -> u64
     ensures { result ≡ start memory.now }
 {
-    for place in 0..row::len(memory).min(CARDS) {
-        let slot = SLOTS.get(memory, place);
-        if stays(memory, slot) {
-            return slot;
-        }
-    }
-    0
+    (0..row_len(memory))
+        .map(|place| SLOTS.get(memory, place))
+        .find(|slot| stays(memory, *slot))
+        .unwrap_or(0)
 }
 
 // So many steps back from a slot that one is on a circle.
-#[tactic(auto, using(crate::proofs::CircleSteps::goes_back))]
 fn go_back(memory: &[u64], first: u64) -> u64
     ensures { result ≡ back (cell memory.now numbers) 8192 first }
 {
-    let mut slot = first;
-    for _i in 0..CARDS {
-        slot = NUMBERS.get(memory, slot);
-    }
-    slot
+    (0..CARDS).fold(first, |slot, _| NUMBERS.get(memory, slot))
 }
 
 // Writes the cards of a circle to the front of `out`, each linked to the next, after n slots have come; says how many.

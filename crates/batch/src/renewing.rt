@@ -11,6 +11,7 @@ ghost use Rattle.batch.specs.Renewing.{raised, counted, counts, freed, frees, cl
 ghost use Rattle.batch.specs.Renewing.{lessened, next_by, left_by, released, let_go, drawn, renewed};
 
 use crate::layout::{LEAVES, SPARE, WAITS};
+use crate::seating::row_len;
 use links::{Chain, ENTRIES, Meeting, from_of, rebuild, step, to_of};
 use row::{CARDS, Column, PLACES, SLOTS};
 use search::FORE;
@@ -70,7 +71,7 @@ fn free(memory: &mut [u64], slot: u64)
 fn free_all(memory: &mut [u64])
     ensures { memory.new ≡ frees memory.old }
 {
-    for place in 0..row::len(memory).min(CARDS) {
+    for place in 0..row_len(memory) {
         let slot = SLOTS.get(memory, place);
         free(memory, slot);
     }
@@ -156,7 +157,7 @@ pub(crate) fn renew(memory: &mut [u64]) -> u64
     ensures after { memory.new ≡ (renewed memory.old).memory }
 {
     prepare(memory);
-    let n = row::len(memory).min(CARDS);
+    let n = row_len(memory);
     for i in 0..n {
         let Some(place) = FORE.first(memory) else {
             return i;

@@ -1,10 +1,18 @@
 // The row put aside, and seated again by what was put aside.
 ghost use Rattle.std.specs.Prelude.{◌≡◌, ◌-◌, min};
+ghost use Rattle.row.specs.Layout.{count};
 ghost use Rattle.batch.specs.Seating.{saved, reseated};
 
 use crate::layout::SPARE;
 use crate::listing::fill;
 use row::{CARDS, PLACES, SLOTS};
+
+// How many cards the row has; no more than there may be, whatever stands in the memory.
+pub(crate) fn row_len(memory: &[u64]) -> u64
+    ensures { result ≡ min (count memory.now) 8192 }
+{
+    row::len(memory).min(CARDS)
+}
 
 // The places from `low` on, below `high`.
 #[derive(Clone, Copy)]

@@ -4,8 +4,7 @@ ghost use Rattle.batch.specs.Tidying.{tidied};
 
 use crate::arranging::arrange;
 use crate::renewing::renew;
-use crate::seating::Span;
-use row::CARDS;
+use crate::seating::{Span, row_len};
 
 // Makes the row anew by the rule, from the order of the cards' numbers on, and says whether all cards came: they do unless links go round.
 #[tactic(auto, unfolding(crate::specs::Tidying::tidied))]
@@ -15,7 +14,7 @@ pub(crate) fn tidy(memory: &mut [u64]) -> bool
 {
     arrange(memory);
     let n = renew(memory);
-    if n < row::len(memory).min(CARDS) {
+    if n < row_len(memory) {
         return false;
     }
     Span::first(n).reseat(memory);
