@@ -1,5 +1,5 @@
 -- The loops over a batch that look at each link, step by step.
-use Rattle.std.proofs.Common.{◌≡◌, ℕ, ◌+◌, ◌<◌, ◌≤◌, min, max, Bool, true, false, ◌&&◌, ◌||◌, leb, List, [], ◌∷◌, ◌++◌, length, get_or, take, drop, sym, refl, ap, ◌∙◌}
+use Rattle.std.proofs.Common.{◌≡◌, ℕ, ◌+◌, ◌<◌, ◌≤◌, Bool, true, false, ◌&&◌, ◌||◌, List, [], ◌∷◌, ◌++◌, length, get_or, take, drop, sym, refl, ap, ◌∙◌}
 use Rattle.std.proofs.lemmas.List.{at_drop_more, at_drop_all, take_more}
 use Rattle.std.proofs.lemmas.List.Recursion.{same_from_clauses}
 use Rattle.std.specs.List.{list_all, list_any, fold}
@@ -7,7 +7,7 @@ use Rattle.row.specs.declared.board.Link.{Link}
 use Rattle.row.specs.Lists.{every, any}
 use Rattle.links.specs.Entries.{joins}
 use Rattle.batch.specs.declared.checking.Named.{Named}
-use Rattle.batch.specs.Checking.{known, repeated, behind, widened, wider, spanned}
+use Rattle.batch.specs.Checking.{known, repeated, wider, spanned}
 
 pub every_is : {X : Type 0} (f : X → Bool) (xs : List X) → every f xs ≡ list_all f xs
 unfolding every
@@ -43,10 +43,5 @@ module _ (m : List ℕ) (ls : List Link) (i : ℕ) (h : length ls ≤ i) where
   pub repeated_end : (ps : List Link) → repeated m ps (drop i ls) ≡ false
   unfolding repeated
   repeated_end ps = at_drop_all (repeated m ps) ls i h
-
-pub widened_is : (s : Named) (a b low high : ℕ) (back : Bool) → low ≡ min s.span.low (min a b) → high ≡ max s.span.high (behind (max a b)) →
-    back ≡ (s.back || leb b a) → record { span = record { low = low; high = high }; back = back } ≡ widened s a b
-unfolding widened
-widened_is s a b low high back p q r = rw (p, q, r) refl
 
 pub ruleset repeating = (repeated_on, repeated_stop, repeated_end)

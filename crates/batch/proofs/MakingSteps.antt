@@ -4,16 +4,14 @@ use Rattle.std.proofs.lemmas.Bool.{lt-ltb, le-ltb, le-leb, eq-eqb}
 use Rattle.row.specs.declared.board.Link.{Link}
 use Rattle.row.specs.declared.board.Refusal.{Refusal}
 use Rattle.row.specs.Layout.{count}
-use Rattle.search.specs.Way.{over}
 use Rattle.keeper.specs.declared.event.Reason.TheVariants.{Unfit, Board}
 use Rattle.keeper.specs.Own.{step_fits}
 use Rattle.batch.specs.Joining.{unless}
 use Rattle.batch.proofs.Trying.{unless_ok, unless_err}
-use Rattle.batch.specs.declared.making_anew.Anew.TheVariants.{Row, Circle}
 use Rattle.batch.specs.Loading.{Loaded, loaded}
 use Rattle.batch.specs.Renewing.{renewed}
 use Rattle.batch.specs.Circling.{traced, round}
-use Rattle.batch.specs.MakingAnew.{new_row, shown_row, shown_circle, ended, made, made_anew}
+use Rattle.batch.specs.MakingAnew.{shown_row, shown_circle, ended, made, made_anew}
 
 module _ (m : List ℕ) (n : ℕ) (out : List ℕ) where
   pub ended_round : n < count m → ended m n out ≡ shown_circle (traced m n) (round (traced m n) (length out)) out
@@ -23,14 +21,6 @@ module _ (m : List ℕ) (n : ℕ) (out : List ℕ) where
   pub ended_row : count m ≤ n → ended m n out ≡ shown_row m n out
   unfolding ended
   ended_row h = rw (le-ltb n (count m) h)
-
-  -- the same of what the code has come to
-  pub ends_round : (k : ℕ) (last shown : List ℕ) → n < count m → k ≡ length (round (traced m n) (length out)) → last ≡ traced m n →
-      shown ≡ over (traced m n) (round (traced m n) (length out)) k out → record { answer = Ok (Circle k); memory = last; out = shown } ≡ ended m n out
-  ends_round k last shown h x y z = rw (z, y, x) (sym (ended_round h))
-
-  pub ends_row : (shown : List ℕ) → count m ≤ n → shown ≡ over m (new_row m n) n out → record { answer = Ok (Row n); memory = m; out = shown } ≡ ended m n out
-  ends_row shown h z = rw z (sym (ended_row h))
 
 module _ (x : Loaded) (out : List ℕ) where
   pub made_refused : (e : Refusal) → x.refused ≡ Some e → made x out ≡ record { answer = Err (Board e); memory = x.memory; out = out }

@@ -1,6 +1,7 @@
 -- No answer of this crate's engine has more numbers than the output has room for.
-use Rattle.std.proofs.Common.{ℕ, ◌≤◌, ◌+◌, Bool, true, false, cond, eqb, ltb, leb, List, [], ◌∷◌, length, Some, None, Option, arith}
+use Rattle.std.proofs.Common.{ℕ, ◌≤◌, ◌+◌, eqb, ltb, leb, List, [], ◌∷◌, length, Some, None, Option, arith}
 use lib.ListN.{length-map}
+use Rattle.std.proofs.lemmas.Bool.{cond_both}
 use Rattle.row.specs.declared.board.Link.{Link}
 use Rattle.row.specs.Columns.{cell}
 use Rattle.row.specs.Layout.{ids, places}
@@ -36,23 +37,16 @@ FewJoined j = FewWay j.way
 few_slots : (m : List ℕ) (x : Link) → FewWay (joined_slots m x).way
 unfolding joined_slots round_cards
 few_slots m x =
-    one_of (ltb (cell m places x.to) (cell m places x.from)) _ _
-    (given_holds Any FewJoined (meeting m x).answer _ _ tt tt (λ y _.
+    cond_both (ltb (cell m places x.to) (cell m places x.from)) _ _ FewJoined
+    (λ _. given_holds Any FewJoined (meeting m x).answer _ _ tt tt (λ y _.
     let n = (meeting m x).memory in
     omega (arith, length-map (way (cell n via) 8192 x y) (cell n ids), way_few (cell n via) 8192 x y)))
-    tt
-  where
-    one_of : (t : Bool) (a b : Joined) → FewJoined a → FewJoined b → FewJoined (cond t a b)
-    one_of true a b p q = p
-    one_of false a b p q = q
+    (λ _. tt)
 
 few_joined : (m : List ℕ) (l : Link) → FewWay (joined m l).way
 unfolding joined
-few_joined m l = given_holds Any FewJoined (slots_found m l) _ _ tt tt (λ x _. itself (eqb x.from x.to) l.from (joined_slots m x) (few_slots m x))
-  where
-    itself : (t : Bool) (k : ℕ) (j : Joined) → FewJoined j → FewJoined (cond t (record { memory = m; way = Some (k ∷ []) }) j)
-    itself true k j p = omega arith
-    itself false k j p = p
+few_joined m l =
+    given_holds Any FewJoined (slots_found m l) _ _ tt tt (λ x _. cond_both (eqb x.from x.to) _ _ FewJoined (λ _. omega arith) (λ _. few_slots m x))
 
 abbrev FewTried : Tried → Type 0
 FewTried t = FewWay t.way
@@ -63,11 +57,6 @@ few_tried m [] i = tt
 few_tried m (l ∷ ls) i =
     given_holds FewWay FewTried (joined m l).way _ _ (few_joined m l) (few_tried (joined m l).memory ls (i + 1)) (λ ks w. w)
 
--- an answer
-one_or_other : (t : Bool) (a b : Answer) → Few a → Few b → Few (cond t a b)
-one_or_other true a b p q = p
-one_or_other false a b p q = q
-
 few_on : (m : List ℕ) → Few (went_on m)
 unfolding keeper_answer
 few_on m = few_answer m Next
@@ -75,7 +64,7 @@ few_on m = few_answer m Next
 few_brought : (m : List ℕ) (ls : List Link) (o : Option Span) → Few (brought m ls o)
 unfolding brought
 few_brought m ls o =
-    one_or_other (leb (live m) 65536) _ _ (given_holds Any Few o _ _ tt (omega arith) (λ s _. few_on (noting m s))) (omega arith)
+    cond_both (leb (live m) 65536) _ _ Few (λ _. given_holds Any Few o _ _ tt (omega arith) (λ s _. few_on (noting m s))) (λ _. omega arith)
 
 few_trial : (t : Tried) (ls : List Link) (o : Option Span) → FewWay t.way → Few (by_trial t ls o)
 unfolding by_trial
@@ -84,17 +73,15 @@ few_trial t ls o w = given_holds FewWay Few t.way _ _ w (few_brought t.memory ls
 few_several : (m : List ℕ) (ls : List Link) → Few (said_several m ls)
 unfolding said_several rearranged
 few_several m ls =
-    one_or_other (leb (length ls) 256) _ _
-    (one_or_other (all_found m ls) _ _
-    (one_or_other (repeated m [] ls) _ _ (omega arith) (few_trial _ ls _ (few_tried _ ls 0))) (omega arith)) (omega arith)
+    cond_both (leb (length ls) 256) _ _ Few (λ _. cond_both (all_found m ls) _ _ Few (λ _. cond_both (repeated m [] ls) _ _ Few (λ _. omega arith) (λ _. few_trial _ ls _ (few_tried _ ls 0))) (λ _. omega arith)) (λ _. omega arith)
 
 few_anew : (m : List ℕ) → Few (said_anew m)
 unfolding said_anew
-few_anew m = one_or_other (tidied m).all _ _ (few_on _) (omega arith)
+few_anew m = cond_both (tidied m).all _ _ Few (λ _. few_on _) (λ _. omega arith)
 
 few_idle : (m : List ℕ) (a : Answer) → Few a → Few (when_idle m a)
 unfolding when_idle
-few_idle m a h = one_or_other (eqb (pending m) 0) a _ h (omega arith)
+few_idle m a h = cond_both (eqb (pending m) 0) a _ Few (λ _. h) (λ _. omega arith)
 
 pub few : (m : List ℕ) (h : Heard) → Few (answer m h)
 unfolding answer

@@ -3,9 +3,9 @@
 // Each card that hasn't come waits for one that hasn't come either. So one step back after the other, as many as there may be cards, leads to a card of a
 // circle, and from there on round it. Two columns serve anew: LEAVES has a 1 for each slot that has come, and NUMBERS has for a slot one that hasn't come
 // and is linked to it.
-ghost use Rattle.std.specs.Prelude.{◌≡◌, ◌≤◌, min, length};
+ghost use Rattle.std.specs.Prelude.{◌≡◌, length};
 ghost use Rattle.row.specs.Columns.{cell};
-ghost use Rattle.search.specs.Way.{trail, over};
+ghost use Rattle.search.specs.Way.{over};
 ghost use Rattle.batch.specs.Layout.{numbers};
 ghost use Rattle.batch.specs.Circling.{flagged, stays, noted, notes, traced, start, back, round};
 

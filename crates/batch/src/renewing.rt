@@ -2,9 +2,7 @@
 //
 // For each slot it is counted how many links come into it from slots that haven't come, and the places of those for which there are none are marked,
 // so that the first mark is next. Each link is followed once, when the card that it comes out of comes.
-ghost use Rattle.std.specs.Prelude.{◌≡◌, ◌-◌, ◌≤◌, min};
-ghost use Rattle.row.specs.Layout.{count};
-ghost use Rattle.links.specs.Layout.{live};
+ghost use Rattle.std.specs.Prelude.{◌≡◌, ◌≤◌};
 ghost use Rattle.links.specs.declared.chain.Chain.TheVariants.{Out};
 ghost use Rattle.links.specs.Chains.{met, stepped};
 ghost use Rattle.batch.specs.Renewing.{raised, counted, counts, freed, frees, cleared, prepared};
