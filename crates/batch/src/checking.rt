@@ -56,6 +56,7 @@ fn is_known(memory: &[u64], link: Link) -> bool
 }
 
 // Whether the link was said already, or is one of these.
+#[tactic(auto, using(crate::proofs::Checks::any_is))]
 fn is_said(memory: &[u64], before: &[Link], link: Link) -> bool
     ensures { result ≡ (known memory.now link || any (joins link) before.now) }
 {

@@ -13,6 +13,7 @@ use keeper::{Act, LINKS, Pending, Reason};
 use row::{Link, Refusal};
 
 // Tells the part of the row.
+#[tactic(auto, using(crate::proofs::SayingSteps::given_by), unfolding(keeper::specs::Own::answer, crate::specs::Saying::noting))]
 fn tell_span(memory: &mut Memory, span: Span, out: &mut Output) -> Result<Act, Reason>
     ensures { Gives (told_span memory.old span) out.old result memory.new out.new }
 {
