@@ -19,6 +19,7 @@ use Rattle.batch.specs.Layout.{awaits, leaves}
 use Rattle.batch.specs.Renewing.{raised, counted, counted_all, cleared, counts}
 use Rattle.batch.proofs.Many.{many, one, many_push, many_few, edges_few}
 use Rattle.batch.proofs.Beside.{Beside, beside_on, beside_raised, beside_counted, beside_cleared}
+use Rattle.batch.specs.Listing.{at_each}
 
 -- the links that go into a slot, and those that come out of it
 abbrev pub to_it : ℕ → Link → Bool
@@ -123,7 +124,7 @@ module _ (m : List ℕ) (long : leaves.base + leaves.size ≤ length m) where
 
   module _ (low : end m ≤ 67584) (alive : (l : ℕ) → l < end m → dead m l ≡ false) (into : (l : ℕ) → l < end m → cell m tos l < 8192) where
     counted_on : (f i : ℕ) (n : List ℕ) → i + f ≡ end m → Counted i n → Counted (end m) (counted_all f n i)
-    unfolding counted_all
+    unfolding counted_all at_each
     counted_on zero i n e C = subst (λ (x : ℕ). Counted x n) (let z : i ≡ end m = omega arith in z) C
     counted_on (suc f) i n e C =
         counted_on f (i + 1) (counted n i) (omega arith)

@@ -43,7 +43,6 @@ pub mod RuleRounds
 pub mod Sorts
 pub mod RuleRenames
 pub mod PartSorted
-pub mod SeatSteps
 pub mod Saving
 pub mod Reseating
 pub mod SaidSize
@@ -59,7 +58,7 @@ pub mod Coming
 pub mod Drawing
 pub mod AllCome
 pub mod MadeAnew
-pub mod FillSteps
+pub mod PlaceByPlace
 pub mod Filling
 pub mod LookUps
 pub mod ColumnSorted

@@ -20,6 +20,7 @@ use Rattle.keeper.proofs.OwnSize.{size_each}
 use Rattle.batch.specs.Layout.{spare}
 use Rattle.batch.specs.Seating.{reseated}
 use Rattle.batch.specs.SeatLaws.{OnlySeats, Seated, Reseats, ReseatsOnly}
+use Rattle.batch.specs.Listing.{at_each}
 
 -- numbers in a row
 out_counting : (a n k : ℕ) → (k < a) ⊎ (a + n ≤ k) → has (range_with_len a n) k ≡ false
@@ -42,7 +43,7 @@ exchanged_row g a (suc n) (k ∷ ks) e =
     (exchanged_row (with_at g a k) (a + 1) n ks (omega arith))
 
 reseated_put : (m : List ℕ) (p n : ℕ) → reseated n m p ≡ put m (range_with_len p n) (map (cell m spare) (range_with_len p n))
-unfolding reseated put
+unfolding reseated at_each put
 reseated_put m p zero = refl
 reseated_put m p (suc n) =
     let m₁ = put_one m p (cell m spare p) in
@@ -52,7 +53,7 @@ reseated_put m p (suc n) =
 
 -- whatever the memory
 only_reseated : (m : List ℕ) (p n : ℕ) → p + n ≤ 2 ^ 64 → OnlySeats m (reseated n m p)
-unfolding reseated
+unfolding reseated at_each
 only_reseated m p zero h = record { as_long = refl; others = λ d j a b. refl; small = λ s. s }
 only_reseated m p (suc n) h =
     let k = cell m spare p in

@@ -24,6 +24,7 @@ use Rattle.batch.proofs.Beside.{beside_on}
 use Rattle.batch.proofs.TriedFrames.{Else, Spared, spared_tried, spared_taken_out}
 use Rattle.batch.proofs.TakingOut.{takes_out}
 use Rattle.batch.proofs.SeatedBack.{row_count, Aside, seated_back}
+use Rattle.batch.specs.Listing.{at_each}
 
 first_within : (r : Board) (ls : List Link) → first_named r ls ≤ length r.row
 unfolding first_named
@@ -110,7 +111,7 @@ module _ (m : List ℕ) (r : Board) (ls : List Link) (s : Span) (M : Means m r) 
   undoes_stopped S = undoes m r ls (tried (put_aside m s) ls 0).count s S.row M sm t long C S.becomes S.means
 
 pub undoes_none : UndoesNone
-unfolding undone reseated
+unfolding undone reseated at_each
 undoes_none m r ls None sm e M = takes_out m r ls sm M
 undoes_none m r ls (Some s) sm e M =
     let h : s.high ≤ s.low = e s refl in

@@ -16,7 +16,7 @@ use row::{CARDS, SLOTS, TALLY};
 use search::show_trail;
 
 // Notes of the first n slots in SPARE that they have come.
-#[tactic(auto, using(crate::proofs::CircleSteps::notes))]
+#[tactic(auto, using(crate::proofs::PlaceByPlace::turns), unfolding(crate::specs::Circling::flagged))]
 fn flag(memory: &mut [u64], n: u64)
     ensures { memory.new ≡ flagged n memory.old 0 }
 {
@@ -47,7 +47,7 @@ fn note(memory: &mut [u64], entry: u64)
 }
 
 // So for each entry of the table.
-#[tactic(auto, using(crate::proofs::CircleSteps::notes))]
+#[tactic(auto, using(crate::proofs::PlaceByPlace::turns), unfolding(crate::specs::Circling::noted_all))]
 fn note_all(memory: &mut [u64])
     ensures { memory.new ≡ notes memory.old }
 {

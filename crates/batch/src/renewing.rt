@@ -44,7 +44,7 @@ fn count(memory: &mut [u64], entry: u64)
 }
 
 // Counts the links of a table that has no dead entry.
-#[tactic(auto, using(crate::proofs::RenewSteps::preparing))]
+#[tactic(auto, using(crate::proofs::PlaceByPlace::turns), unfolding(crate::specs::Renewing::counted_all))]
 fn count_all(memory: &mut [u64])
     ensures { memory.new ≡ counts memory.old }
 {
@@ -65,7 +65,7 @@ fn free(memory: &mut [u64], slot: u64)
 }
 
 // Marks the places of all slots that wait for none.
-#[tactic(auto, using(crate::proofs::RenewSteps::preparing))]
+#[tactic(auto, using(crate::proofs::PlaceByPlace::turns), unfolding(crate::specs::Renewing::freed_all))]
 fn free_all(memory: &mut [u64])
     ensures { memory.new ≡ frees memory.old }
 {

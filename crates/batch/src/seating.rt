@@ -42,7 +42,7 @@ impl Span {
     }
 
     // Gives the places to the slots that were put aside for them.
-    #[tactic(auto, using(crate::proofs::SeatSteps::steps))]
+    #[tactic(auto, using(crate::proofs::PlaceByPlace::turns), unfolding(crate::specs::Seating::reseated))]
     pub fn reseat(self, memory: &mut [u64])
         ensures { memory.new ≡ reseated (min self.high 8192 - self.low) memory.old self.low }
     {

@@ -2,7 +2,7 @@ use Rattle.std.proofs.Common.{ℕ, ◌+◌, ◌-◌, List, sym, ap, ◌∙◌, a
 use Rattle.std.specs.declared.ops.Range.{Range}
 use Rattle.row.specs.Columns.{written}
 use Rattle.batch.specs.Arranging.{filled}
-use Rattle.batch.proofs.FillSteps.{filled_go, filled_end}
+use Rattle.batch.proofs.PlaceByPlace.{each_go, each_end}
 use Rattle.batch.proofs.listing.fill.Goals as goal
 
 pub loop-place-init : goal.loop-place-init
@@ -11,6 +11,7 @@ loop-place-init g c =
     (ap (λ (x : Range ℕ). x.end) e, λ v h. ap (λ (x : Range ℕ). filled v c.args.column (c.args.places.end - x.start) c.args.memory.now x.start) e)
 
 pub loop-place-preserved : goal.loop-place-preserved
+unfolding filled
 loop-place-preserved g c =
     let m = c.loop-place.memory in
     let p = c.loop-place.place-iterator.start in
@@ -22,12 +23,13 @@ loop-place-preserved g c =
           ap (λ (i : ℕ). filled v d (end - i) c.set.new.memory i) s.1.2
           ∙ ap (λ (m₁ : List ℕ). filled v d (end - (p + 1)) m₁ (p + 1))
           (c.set.ensures ∙ ap₂ (written m d) s.1.1 (h _ _ _ c.value-number.ensures ∙ ap (v m) s.1.1))
-          ∙ sym (filled_go v d end p m (omega (arith, s.1.0, c.loop-place.invariant.0))) ∙ c.loop-place.invariant.1 v h,
+          ∙ sym (each_go _ end p m (omega (arith, s.1.0, c.loop-place.invariant.0))) ∙ c.loop-place.invariant.1 v h,
     )
 
 pub returns : goal.returns
+unfolding filled
 returns g c = λ v h.
     let p = c.loop-place.place-iterator.start in
     let s = c.in-None.ensures.steps in
-    sym (filled_end v c.args.column c.args.places.end p p c.loop-place.memory (omega (arith, s.1.0, c.loop-place.invariant.0)))
+    sym (each_end _ c.args.places.end p p c.loop-place.memory (omega (arith, s.1.0, c.loop-place.invariant.0)))
     ∙ c.loop-place.invariant.1 v h
