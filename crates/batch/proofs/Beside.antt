@@ -2,7 +2,7 @@
 use Rattle.std.proofs.Common.{◌≡◌, ℕ, zero, suc, ◌+◌, ◌-◌, ◌^◌, ◌<◌, min, true, eqb, List, length, refl, ◌∙◌, arith}
 use Rattle.std.proofs.lemmas.Bool.{cond_both}
 use Rattle.row.specs.declared.column.Column.{Column}
-use Rattle.row.specs.Columns.{cell, written, apart}
+use Rattle.row.specs.Columns.{cell, written, apart, wiped}
 use Rattle.row.specs.Layout.{slots, places}
 use Rattle.row.proofs.Cells.{length_written, cell_apart}
 use Rattle.links.specs.Layout.{froms, tos}

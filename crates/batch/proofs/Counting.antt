@@ -4,7 +4,7 @@ use Rattle.std.proofs.lemmas.Bool.{cases_eq, eq-eqb, ne_eqb, ltb-true, not-false
 use Rattle.row.specs.declared.board.Link.{Link}
 use Rattle.row.specs.Lists.{filter}
 use Rattle.row.specs.declared.column.Column.{Column}
-use Rattle.row.specs.Columns.{cell, written, apart}
+use Rattle.row.specs.Columns.{cell, written, apart, wiped}
 use Rattle.row.specs.Layout.{tally}
 use Rattle.row.proofs.Cells.{length_written, cell_same, cell_other}
 use Rattle.links.specs.Layout.{live, end, froms, tos}
