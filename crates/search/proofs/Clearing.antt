@@ -1,25 +1,18 @@
 -- The steps of the loop that clears the words that the summary names.
-use Rattle.std.proofs.Common.{◌≡◌, ℕ, ◌+◌, ◌-◌, ◌<◌, ◌≤◌, List, Some, None}
+use Rattle.std.proofs.Common.{◌≡◌, ℕ, ◌+◌, ◌-◌, ◌<◌, ◌≤◌, List}
 use Rattle.row.specs.declared.column.Column.{Column}
 use Rattle.row.specs.Columns.{written}
 use Rattle.row.specs.Lookup.{given}
 use Rattle.row.proofs.Fuel.{fuel_step, fuel_end}
 use Rattle.search.specs.Marks.{word_up, cleared}
 
-cleared_at : (N i : ℕ) (m : List ℕ) (c : Column) (w : ℕ) → i < N →
+pub cleared_at : (N i : ℕ) (m : List ℕ) (c : Column) (w : ℕ) → i < N →
     cleared (N - i) m c w ≡ given (word_up m c w) m (λ v. cleared (N - (i + 1)) (written m c v 0) c (v + 1))
 unfolding cleared
 cleared_at N i m c w h = fuel_step (λ f. cleared f m c w) N i h
-
-pub cleared_stop : (N i : ℕ) (m : List ℕ) (c : Column) (w : ℕ) → i < N → word_up m c w ≡ None → cleared (N - i) m c w ≡ m
-cleared_stop N i m c w h e = rw e at (cleared_at N i m c w h)
-
-pub cleared_go : (N i : ℕ) (m : List ℕ) (c : Column) (w v : ℕ) → i < N → word_up m c w ≡ Some v →
-    cleared (N - i) m c w ≡ cleared (N - (i + 1)) (written m c v 0) c (v + 1)
-cleared_go N i m c w v h e = rw e at (cleared_at N i m c w h)
 
 pub cleared_end : (N i : ℕ) (m : List ℕ) (c : Column) (w : ℕ) → N ≤ i → cleared (N - i) m c w ≡ m
 unfolding cleared
 cleared_end N i m c w h = fuel_end (λ f. cleared f m c w) N i h
 
-pub ruleset steps = (cleared_stop, cleared_go, cleared_end)
+pub ruleset steps = (cleared_at, cleared_end)

@@ -1,5 +1,5 @@
 -- The steps of the loops that gather the slots and give them their places.
-use Rattle.std.proofs.Common.{◌≡◌, ℕ, ◌+◌, ◌-◌, ◌<◌, ◌≤◌, List, Some, None, Option, ◌∙◌}
+use Rattle.std.proofs.Common.{◌≡◌, ℕ, ◌+◌, ◌-◌, ◌<◌, ◌≤◌, List, Option}
 use Rattle.row.specs.declared.column.Column.{Column}
 use Rattle.row.specs.Columns.{cell, written}
 use Rattle.row.specs.Layout.{slots}
@@ -12,38 +12,23 @@ use Rattle.search.specs.Settle.{Gathered, gathered, both_next, seated, dealt}
 abbrev pub all : List ℕ → ℕ → Gathered
 all m i = record { memory = m; end = i }
 
-gathered_at : (N j : ℕ) (m : List ℕ) (c : Column) (o : Option ℕ) (i : ℕ) → j < N →
+pub gathered_at : (N j : ℕ) (m : List ℕ) (c : Column) (o : Option ℕ) (i : ℕ) → j < N →
     gathered (N - j) m c o i ≡ given o (all m i)
     (λ p. gathered (N - (j + 1)) (written m chosen i (cell m slots p)) c (next_up (written m chosen i (cell m slots p)) c p) (i + 1))
 unfolding gathered
 gathered_at N j m c o i h = fuel_step (λ f. gathered f m c o i) N j h
 
-pub gathered_stop : (N j : ℕ) (m : List ℕ) (c : Column) (o : Option ℕ) (i : ℕ) → j < N → o ≡ None → gathered (N - j) m c o i ≡ all m i
-gathered_stop N j m c o i h e = gathered_at N j m c o i h ∙ rw e
-
-pub gathered_go : (N j : ℕ) (m : List ℕ) (c : Column) (o : Option ℕ) (i p : ℕ) → j < N → o ≡ Some p →
-    gathered (N - j) m c o i
-    ≡ gathered (N - (j + 1)) (written m chosen i (cell m slots p)) c (next_up (written m chosen i (cell m slots p)) c p) (i + 1)
-gathered_go N j m c o i p h e = gathered_at N j m c o i h ∙ rw e
-
 pub gathered_end : (N j : ℕ) (m : List ℕ) (c : Column) (o : Option ℕ) (i : ℕ) → N ≤ j → gathered (N - j) m c o i ≡ all m i
 unfolding gathered
 gathered_end N j m c o i h = fuel_end (λ f. gathered f m c o i) N j h
 
-dealt_at : (N j : ℕ) (m : List ℕ) (o : Option ℕ) (i : ℕ) → j < N →
+pub dealt_at : (N j : ℕ) (m : List ℕ) (o : Option ℕ) (i : ℕ) → j < N →
     dealt (N - j) m o i ≡ given o m (λ p. dealt (N - (j + 1)) (seated m p i) (both_next (seated m p i) p) (i + 1))
 unfolding dealt
 dealt_at N j m o i h = fuel_step (λ f. dealt f m o i) N j h
-
-pub dealt_stop : (N j : ℕ) (m : List ℕ) (o : Option ℕ) (i : ℕ) → j < N → o ≡ None → dealt (N - j) m o i ≡ m
-dealt_stop N j m o i h e = dealt_at N j m o i h ∙ rw e
-
-pub dealt_go : (N j : ℕ) (m : List ℕ) (o : Option ℕ) (i p : ℕ) → j < N → o ≡ Some p →
-    dealt (N - j) m o i ≡ dealt (N - (j + 1)) (seated m p i) (both_next (seated m p i) p) (i + 1)
-dealt_go N j m o i p h e = dealt_at N j m o i h ∙ rw e
 
 pub dealt_end : (N j : ℕ) (m : List ℕ) (o : Option ℕ) (i : ℕ) → N ≤ j → dealt (N - j) m o i ≡ m
 unfolding dealt
 dealt_end N j m o i h = fuel_end (λ f. dealt f m o i) N j h
 
-pub ruleset steps = (gathered_stop, gathered_go, gathered_end, dealt_stop, dealt_go, dealt_end)
+pub ruleset steps = (gathered_at, gathered_end, dealt_at, dealt_end)

@@ -96,7 +96,7 @@ impl Search {
         let mut pointer = slot;
         for i in 0..fuel {
             match self.take_turn(memory, slot, pointer) {
-                ControlFlow::Break(None) => return ControlFlow::Continue(fuel - i - 1),
+                ControlFlow::Break(None) => return ControlFlow::Continue(fuel - (i + 1)),
                 ControlFlow::Break(Some(far)) => return ControlFlow::Break(far),
                 ControlFlow::Continue(next) => pointer = next,
             }

@@ -1,4 +1,5 @@
-// Where the columns of this crate lie in the lent memory.
+// Where the columns of this crate lie in the lent memory. There is no heap, and what is lent may hold anything: so columns of numbers stand here, by place or
+// by slot, and no lists or maps.
 use crate::marks::Marks;
 use row::Column;
 

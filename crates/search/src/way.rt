@@ -2,6 +2,9 @@
 //
 // `VIA` leads from a slot of the one side back to where that search began, and from one of the other side on to where that began. So the first half
 // of the way is found from its end, and turned round in place.
+//
+// The link that was asked for and the one at which the searches met go side by side: the caller has the first, `meet` told the second, and a struct would be
+// made only to be taken apart here.
 ghost use Rattle.std.specs.Prelude.{◌≡◌, ◌≤◌, ◌++◌, length, drop};
 ghost use Rattle.row.specs.Columns.{cell};
 ghost use Rattle.search.specs.Layout.{via};
