@@ -1,5 +1,5 @@
 -- No answer has more numbers than the output has room for.
-use Rattle.std.proofs.Common.{◌≡◌, ℕ, ◌≤◌, ◌+◌, ◌-◌, min, Bool, true, false, cond, ◌++◌, eqb, ltb, leb, List, length, take, drop, sym, ap, ◌∙◌, arith, length-take}
+use Rattle.std.proofs.Common.{◌≡◌, ℕ, ◌≤◌, ◌+◌, ◌-◌, min, ◌++◌, eqb, ltb, leb, List, length, take, drop, sym, ap, ◌∙◌, arith, length-take}
 use lib.ListN.{length-map}
 use Rattle.std.proofs.lemmas.List.{append_assoc, take-append-drop, drop-append-le, length-take-le}
 use Rattle.row.specs.declared.board.Command.{Command}
@@ -24,14 +24,10 @@ use Rattle.keeper.specs.Reordering.{round_cards, shown_round, moved, reordered}
 use Rattle.keeper.specs.Linking.{slots_found, linked}
 use Rattle.keeper.specs.Own.{shown_places, said, went_on, answer}
 use Rattle.keeper.proofs.OwnSize.{Any}
-use Rattle.keeper.proofs.Size.{given_holds}
+use Rattle.keeper.proofs.Size.{cond_holds, given_holds}
 
 abbrev pub Few : Answer → Type 0
 Few a = length a.numbers ≤ 8192
-
-few_cond : (t : Bool) (a b : Answer) → Few a → Few b → Few (cond t a b)
-few_cond true a b p q = p
-few_cond false a b p q = q
 
 few_told : (m : List ℕ) (i j : ℕ) → Few (told_part m i j)
 unfolding told_part middle
@@ -47,7 +43,7 @@ few_round m x y = omega (arith, length-map (way (cell m via) 8192 x y) (cell m i
 few_moved : (m : List ℕ) (x : Link) (i j : ℕ) → Few (moved m x i j)
 unfolding moved
 few_moved m x i j =
-    few_cond (leb 65536 (live m)) _ _ (omega arith) (few_told (inserted (settled m) x) i (min (j + 1) 18446744073709551615))
+    cond_holds Few (leb 65536 (live m)) _ _ (omega arith) (few_told (inserted (settled m) x) i (min (j + 1) 18446744073709551615))
 
 few_reordered : (m : List ℕ) (x : Link) → Few (reordered m x)
 unfolding reordered
@@ -60,8 +56,8 @@ unfolding linked
 few_linked m l =
     given_holds Any Few (slots_found m l) _ _ tt (omega arith) (λ x _.
     given_holds Any Few (entry_found m x) _ _ tt
-    (few_cond (eqb x.from x.to) _ _ (omega arith)
-    (few_cond (ltb (cell m places x.to) (cell m places x.from)) _ _ (few_reordered m x) (omega arith)))
+    (cond_holds Few (eqb x.from x.to) _ _ (omega arith)
+    (cond_holds Few (ltb (cell m places x.to) (cell m places x.from)) _ _ (few_reordered m x) (omega arith)))
     (λ e _. omega arith))
 
 few_places : (m : List ℕ) (a b : ℕ) → Few (shown_places m a b)
@@ -79,11 +75,11 @@ few_said m (Places a b) = few_places m a b
 
 few_on : (m : List ℕ) → Few (went_on m)
 unfolding went_on
-few_on m = few_cond (eqb (pending m) 3) _ _ (few_told m (cell m tally 5) (cell m tally 6)) (omega arith)
+few_on m = cond_holds Few (eqb (pending m) 3) _ _ (few_told m (cell m tally 5) (cell m tally 6)) (omega arith)
 
 pub few_answer : (m : List ℕ) (ev : Event) → Few (answer m ev)
 unfolding answer
-few_answer m (Said c) = few_cond (eqb (pending m) 0) _ _ (few_said m c) (omega arith)
+few_answer m (Said c) = cond_holds Few (eqb (pending m) 0) _ _ (few_said m c) (omega arith)
 few_answer m Next = few_on m
 
 -- what is put at the front of a part stands at the front of the whole
