@@ -1,5 +1,5 @@
 -- In a memory that holds cards and links, the row by the rule is shown, or a circle of the links.
-use Rattle.std.proofs.Common.{◌≡◌, ℕ, ◌+◌, ◌<◌, ◌≤◌, true, List, ◌++◌, map, length, drop, sym, refl, ap, ◌∙◌, ap₂, arith}
+use Rattle.std.proofs.Common.{◌≡◌, ℕ, ◌+◌, ◌<◌, ◌≤◌, true, List, ◌++◌, map, length, drop, sym, refl, ap, ◌∙◌, ap₂, arith, Ok}
 use mathlib.Core.List.{map_congr_left}
 use lib.ListN.{length-map}
 use Rattle.std.proofs.lemmas.List.FromFn.{length-map-range_with_len}
@@ -74,12 +74,12 @@ module _ (m row : List ℕ) (ls : List Link) (H : Holding m row ls) where
 
   -- if all come, the row by the rule is shown
   pub row_shown : (out : List ℕ) → length (anew ls row) ≡ length row →
-      ((ended m' n out).answer ≡ Row (length row)) × ((ended m' n out).out ≡ anew ls row ++ drop (length row) out)
+      ((ended m' n out).answer ≡ Ok (Row (length row))) × ((ended m' n out).out ≡ anew ls row ++ drop (length row) out)
   row_shown out e =
       let k : n ≡ length row = came_is ∙ e in
       let z = ended_row m' n out (omega (arith, count_is)) in
       let w = map_congr_left {f = cell m' ids} {g = cell m ids} {l = new_row m' n} (λ s _. ids_are s) ∙ ap (map (cell m ids)) law.come ∙ anew_is in (
-        ap (λ (x : Made). x.answer) z ∙ ap Row k,
+        ap (λ (x : Made). x.answer) z ∙ ap (λ (i : ℕ). Ok (Row i)) k,
         ap (λ (x : Made). x.out) z ∙ ap₂ (λ (ks : List ℕ) (i : ℕ). ks ++ drop i out) w k,
       )
 
@@ -126,13 +126,13 @@ module _ (m row : List ℕ) (ls : List Link) (H : Holding m row ls) where
         (λ s _. same_ids m' n long law.stands law.tabled within_then apart_then come_then (not_all e) s ∙ ids_are s))
         ∙ circle_named (cell m ids) (used m) (slot_board m) naming ws c.1 c.0
 
-    pub circle_shown : (way : List ℕ) × ((ended m' n out).answer ≡ Circle (length way)) × ((ended m' n out).out ≡ way ++ drop (length way) out)
+    pub circle_shown : (way : List ℕ) × ((ended m' n out).answer ≡ Ok (Circle (length way))) × ((ended m' n out).out ≡ way ++ drop (length way) out)
         × (circle (record { row = row; links = ls }) way ≡ true)
     circle_shown =
         let z = ended_round m' n out (not_all e) in
         let k = length-map ws (cell x ids) in (
           map (cell x ids) ws,
-          ap (λ (y : Made). y.answer) z ∙ ap Circle (sym k),
+          ap (λ (y : Made). y.answer) z ∙ ap (λ (i : ℕ). Ok (Circle i)) (sym k),
           ap (λ (y : Made). y.out) z ∙ ap (λ (i : ℕ). map (cell x ids) ws ++ drop i out) (sym k),
           circle_cards,
         )

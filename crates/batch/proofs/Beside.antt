@@ -6,6 +6,7 @@ use Rattle.row.specs.Columns.{cell, written, apart, wiped}
 use Rattle.row.specs.Layout.{slots, places}
 use Rattle.row.proofs.Cells.{length_written, cell_apart}
 use Rattle.links.specs.Layout.{froms, tos}
+use Rattle.row.specs.Columns.{wiped}
 use Rattle.links.specs.Building.{blanked}
 use Rattle.search.specs.Layout.{fore}
 use Rattle.search.specs.Marks.{added}
@@ -13,6 +14,7 @@ use Rattle.search.specs.MarkLaws.{Only}
 use Rattle.search.proofs.Frames.{Small, small_written, small_cell, only_added}
 use Rattle.batch.specs.Layout.{awaits, leaves}
 use Rattle.batch.specs.Renewing.{raised, counted, counted_all, cleared, freed, freed_all, lessened}
+use Rattle.batch.specs.Listing.{at_each}
 
 -- n is m in the columns of which T holds
 pub record Beside (T : Column → Type 0) (m n : List ℕ) : Type 0 where
@@ -48,6 +50,12 @@ module _ (T : Column → Type 0) where
   pub beside_only : (c : Column) (m n : List ℕ) → Off T c → Only c m n → Beside T m n
   beside_only c m n off o = record { as_long = o.long; others = λ d j t. o.others d j (off d t); small = o.small }
 
+  pub beside_each : (step : List ℕ → ℕ → List ℕ) → ((m : List ℕ) (i : ℕ) → Beside T m (step m i)) → (f : ℕ) (m : List ℕ) (i : ℕ) →
+      Beside T m (at_each step f m i)
+  unfolding at_each
+  beside_each step h zero m i = beside_same m
+  beside_each step h (suc f) m i = beside_on m (step m i) (at_each step f (step m i) (i + 1)) (h m i) (beside_each step h f (step m i) (i + 1))
+
   pub beside_blanked : (f : ℕ) (m : List ℕ) (c : Column) (i : ℕ) → Off T c → Beside T m (blanked f m c i)
   unfolding blanked wiped
   beside_blanked zero m c i off = beside_same m
@@ -68,9 +76,7 @@ module _ (T : Column → Type 0) where
 
     pub beside_counted_all : (f : ℕ) (m : List ℕ) (l : ℕ) → Beside T m (counted_all f m l)
     unfolding counted_all
-    beside_counted_all zero m l = beside_same m
-    beside_counted_all (suc f) m l =
-        beside_on m (counted m l) (counted_all f (counted m l) (l + 1)) (beside_counted m l) (beside_counted_all f (counted m l) (l + 1))
+    beside_counted_all f m l = beside_each counted beside_counted f m l
 
     pub beside_cleared : (m : List ℕ) → Beside T m (cleared m)
     unfolding cleared
@@ -87,10 +93,7 @@ module _ (T : Column → Type 0) where
 
     pub beside_freed_all : (f : ℕ) (m : List ℕ) (p : ℕ) → Beside T m (freed_all f m p)
     unfolding freed_all
-    beside_freed_all zero m p = beside_same m
-    beside_freed_all (suc f) m p =
-        let m₁ = freed m (cell m slots p) in
-        beside_on m m₁ (freed_all f m₁ (p + 1)) (beside_freed m (cell m slots p)) (beside_freed_all f m₁ (p + 1))
+    beside_freed_all f m p = beside_each (λ m₁ q. freed m₁ (cell m₁ slots q)) (λ m₁ q. beside_freed m₁ (cell m₁ slots q)) f m p
 
     pub beside_lessened : Off T awaits → (m : List ℕ) (s : ℕ) → Beside T m (lessened m s)
     unfolding lessened

@@ -16,7 +16,7 @@ use Rattle.keeper.specs.Meaning.{card_board}
 use Rattle.keeper.specs.Linking.{slots_found}
 use Rattle.keeper.proofs.Knowing.{names}
 use Rattle.keeper.proofs.TwoCards.{Seated, has_row, seated, absent, slots_there, linked_is}
-use Rattle.batch.specs.declared.checking.Span.{Span}
+use Rattle.batch.specs.declared.checking.Named.{Named}
 use Rattle.batch.specs.Several.{all_there}
 use Rattle.batch.specs.Checking.{all_found, known, widened, wider}
 use Rattle.batch.specs.CheckLaws.{FindsAll}
@@ -65,7 +65,7 @@ module _ (m : List ℕ) (R : Ready m) where
         rw slots_are (finds_entry m (A.0 ⟶ B.0) R.tabled (used_below m R.stands A.0 A.1.in_use)).0
         ∙ sym (linked_is m R l.from l.to A.0 B.0 A.1 B.1)
 
-    pub wider_so : (s : Span) → wider m l s ≡ widened s (place r.row l.from) (place r.row l.to)
+    pub wider_so : (s : Named) → wider m l s ≡ widened s (place r.row l.from) (place r.row l.to)
     unfolding wider
     wider_so s = rw (slots_are, place_so l.from A.0 A.1, place_so l.to B.0 B.1)
 

@@ -1,5 +1,5 @@
 -- Each answer of the engine comes with the numbers that it speaks of: as many as are shown, and none where nothing is shown or told.
-use Rattle.std.proofs.Common.{◌≡◌, ℕ, ◌≤◌, Bool, true, false, cond, eqb, ltb, leb, List, [], length, refl, arith}
+use Rattle.std.proofs.Common.{Ok, Err, Result, ◌≡◌, ℕ, ◌≤◌, Bool, true, false, cond, eqb, ltb, leb, List, [], length, refl, arith, Option}
 use Rattle.std.proofs.lemmas.Bool.{cond_both}
 use Rattle.row.specs.declared.board.Command.{Command}
 use Rattle.row.specs.declared.board.Command.TheVariants.{Comes, Goes, Link as Links, Unlink as Unlinks, Places}
@@ -14,9 +14,10 @@ use Rattle.links.specs.Removing.{removed}
 use Rattle.search.specs.Hunt.{meeting}
 use Rattle.keeper.specs.declared.event.Event.{Event}
 use Rattle.keeper.specs.declared.event.Event.TheVariants.{Said, Next}
+use Rattle.keeper.specs.declared.event.Reason.{Reason}
 use Rattle.keeper.specs.declared.event.Reason.TheVariants.{Idle, Board}
 use Rattle.keeper.specs.declared.event.Act.{Act}
-use Rattle.keeper.specs.declared.event.Act.TheVariants.{Tells, Shows, Done, Refused}
+use Rattle.keeper.specs.declared.event.Act.TheVariants.{Tells, Shows, Done}
 use Rattle.keeper.specs.Answers.{Answer, Ended, quiet, pending}
 use Rattle.keeper.specs.Telling.{told_part}
 use Rattle.keeper.specs.Reordering.{shown_round, moved, reordered}
@@ -24,7 +25,7 @@ use Rattle.keeper.specs.Linking.{slots_found, unlinked, put_in, linked}
 use Rattle.keeper.specs.Own.{said as command_said, finished, went_on, answer as keeper_answer}
 use Rattle.keeper.proofs.Size.{given_holds}
 use Rattle.keeper.proofs.OwnSize.{by_result_holds, Any}
-use Rattle.batch.specs.declared.checking.Span.{Span}
+use Rattle.batch.specs.declared.seating.Span.{Span}
 use Rattle.batch.specs.Checking.{all_found, repeated}
 use Rattle.batch.specs.Joining.{Tried}
 use Rattle.batch.specs.Saying.{noting, brought, by_trial, rearranged, said_several}
@@ -32,11 +33,11 @@ use Rattle.batch.specs.Tidying.{tidied}
 use Rattle.batch.specs.Engine.{one, several, anew, Heard, said, next}
 use Rattle.batch.specs.Own.{said_anew, when_idle, answer}
 
-abbrev pub CountedBy : Act → List ℕ → Type 0
-CountedBy (Tells p n) ks = n ≤ 4096
-CountedBy (Shows n) ks = length ks ≡ n
-CountedBy Done ks = ks ≡ []
-CountedBy (Refused e) ks = ks ≡ []
+abbrev pub CountedBy : Result Act Reason → List ℕ → Type 0
+CountedBy (Ok (Tells p n)) ks = n ≤ 4096
+CountedBy (Ok (Shows n)) ks = length ks ≡ n
+CountedBy (Ok Done) ks = ks ≡ []
+CountedBy (Err e) ks = ks ≡ []
 
 abbrev pub Counted : Answer → Type 0
 Counted a = CountedBy a.act a.numbers
@@ -44,16 +45,12 @@ Counted a = CountedBy a.act a.numbers
 abbrev Quiet : Ended → Type 0
 Quiet e = Counted (quiet e)
 
-one_or_other : (t : Bool) (a b : Answer) → Counted a → Counted b → Counted (cond t a b)
-one_or_other true a b p q = p
-one_or_other false a b p q = q
-
 -- the keeper's
 counted_told : (m : List ℕ) (i j : ℕ) → Counted (told_part m i j)
 unfolding told_part
 counted_told m i j = omega arith
 
-quiet_finished : (a b : Bool) → CountedBy (cond a Done (cond b (Refused (Board Cycle)) (Refused Idle))) []
+quiet_finished : (a b : Bool) → CountedBy (cond a (Ok Done) (cond b (Err (Board Cycle)) (Err Idle))) []
 quiet_finished true b = refl
 quiet_finished false true = refl
 quiet_finished false false = refl
@@ -61,14 +58,13 @@ quiet_finished false false = refl
 counted_on : (m : List ℕ) → Counted (went_on m)
 unfolding went_on
 counted_on m =
-    one_or_other (eqb (pending m) 3) (told_part m (cell m tally 5) (cell m tally 6)) (quiet (finished m)) (counted_told m (cell m tally 5) (cell m tally 6))
-    (quiet_finished (eqb (pending m) 1) (eqb (pending m) 2))
+    cond_both (eqb (pending m) 3) (told_part m (cell m tally 5) (cell m tally 6)) (quiet (finished m)) Counted (λ _. counted_told m (cell m tally 5) (cell m tally 6)) (λ _. quiet_finished (eqb (pending m) 1) (eqb (pending m) 2))
 
 counted_reordered : (m : List ℕ) (x : Link) → Counted (reordered m x)
 unfolding reordered moved shown_round
 counted_reordered m x =
     let n = (meeting m x).memory in
-    given_holds Any Counted (meeting m x).answer _ _ tt (one_or_other (leb 65536 (live n)) _ _ refl (counted_told _ _ _)) (λ y _. refl)
+    given_holds Any Counted (meeting m x).answer _ _ tt (cond_both (leb 65536 (live n)) _ _ Counted (λ _. refl) (λ _. counted_told _ _ _)) (λ y _. refl)
 
 quiet_put : (m : List ℕ) (x : Link) → Quiet (put_in m x)
 unfolding put_in
@@ -79,8 +75,7 @@ unfolding linked
 counted_linked m l =
     given_holds Any Counted (slots_found m l) _ _ tt refl (λ x _.
     given_holds Any Counted (entry_found m x) _ _ tt
-    (one_or_other (eqb x.from x.to) _ _ refl
-    (one_or_other (ltb (cell m places x.to) (cell m places x.from)) _ _ (counted_reordered m x) (quiet_put m x)))
+    (cond_both (eqb x.from x.to) _ _ Counted (λ _. refl) (λ _. cond_both (ltb (cell m places x.to) (cell m places x.from)) _ _ Counted (λ _. counted_reordered m x) (λ _. quiet_put m x)))
     (λ _ _. refl))
 
 counted_said : (m : List ℕ) (c : Command) → Counted (command_said m c)
@@ -95,32 +90,31 @@ counted_said m (Places a b) =
 
 counted_command : (m : List ℕ) (ev : Event) → Counted (keeper_answer m ev)
 unfolding keeper_answer
-counted_command m (Said c) = one_or_other (eqb (pending m) 0) _ _ (counted_said m c) refl
+counted_command m (Said c) = cond_both (eqb (pending m) 0) _ _ Counted (λ _. counted_said m c) (λ _. refl)
 counted_command m Next = counted_on m
 
 -- those of this crate
-counted_brought : (m : List ℕ) (ls : List Link) (s : Span) → Counted (brought m ls s)
+counted_brought : (m : List ℕ) (ls : List Link) (s : Option Span) → Counted (brought m ls s)
 unfolding brought
-counted_brought m ls s =
-    one_or_other (leb (live m) 65536) _ _ (one_or_other s.back _ _ (counted_on (noting m s)) refl) refl
+counted_brought m ls o =
+    cond_both (leb (live m) 65536) _ _ Counted (λ _. given_holds Any Counted o _ _ tt refl (λ s _. counted_on (noting m s))) (λ _. refl)
 
-counted_trial : (t : Tried) (ls : List Link) (s : Span) → Counted (by_trial t ls s)
+counted_trial : (t : Tried) (ls : List Link) (s : Option Span) → Counted (by_trial t ls s)
 unfolding by_trial
 counted_trial t ls s = given_holds Any Counted t.way _ _ tt (counted_brought t.memory ls s) (λ ks _. refl)
 
 counted_several : (m : List ℕ) (ls : List Link) → Counted (said_several m ls)
 unfolding said_several rearranged
 counted_several m ls =
-    one_or_other (leb (length ls) 256) _ _
-    (one_or_other (all_found m ls) _ _ (one_or_other (repeated m [] ls) _ _ refl (counted_trial _ _ _)) refl) refl
+    cond_both (leb (length ls) 256) _ _ Counted (λ _. cond_both (all_found m ls) _ _ Counted (λ _. cond_both (repeated m [] ls) _ _ Counted (λ _. refl) (λ _. counted_trial _ _ _)) (λ _. refl)) (λ _. refl)
 
 counted_anew : (m : List ℕ) → Counted (said_anew m)
 unfolding said_anew
-counted_anew m = one_or_other (tidied m).all _ _ (counted_on _) refl
+counted_anew m = cond_both (tidied m).all _ _ Counted (λ _. counted_on _) (λ _. refl)
 
 when_idle_counted : (m : List ℕ) (a : Answer) → Counted a → Counted (when_idle m a)
 unfolding when_idle
-when_idle_counted m a h = one_or_other (eqb (pending m) 0) a _ h refl
+when_idle_counted m a h = cond_both (eqb (pending m) 0) a _ Counted (λ _. h) (λ _. refl)
 
 pub counted : (m : List ℕ) (h : Heard) → Counted (answer m h)
 unfolding answer

@@ -11,6 +11,7 @@ use Rattle.links.specs.Layout.{live, end, froms, tos}
 use Rattle.links.specs.Chains.{dead}
 use Rattle.links.specs.Entries.{link_at}
 use Rattle.links.specs.Meaning.{edges_of}
+use Rattle.row.specs.Columns.{wiped}
 use Rattle.links.specs.Building.{blanked}
 use Rattle.links.proofs.Edging.{edges_more}
 use Rattle.links.proofs.Emptying.{length_blanked, blanked_apart}
@@ -18,6 +19,7 @@ use Rattle.batch.specs.Layout.{awaits, leaves}
 use Rattle.batch.specs.Renewing.{raised, counted, counted_all, cleared, counts}
 use Rattle.batch.proofs.Many.{many, one, many_push, many_few, edges_few}
 use Rattle.batch.proofs.Beside.{Beside, beside_on, beside_raised, beside_counted, beside_cleared}
+use Rattle.batch.specs.Listing.{at_each}
 
 -- the links that go into a slot, and those that come out of it
 abbrev pub to_it : ℕ → Link → Bool
@@ -122,7 +124,7 @@ module _ (m : List ℕ) (long : leaves.base + leaves.size ≤ length m) where
 
   module _ (low : end m ≤ 67584) (alive : (l : ℕ) → l < end m → dead m l ≡ false) (into : (l : ℕ) → l < end m → cell m tos l < 8192) where
     counted_on : (f i : ℕ) (n : List ℕ) → i + f ≡ end m → Counted i n → Counted (end m) (counted_all f n i)
-    unfolding counted_all
+    unfolding counted_all at_each
     counted_on zero i n e C = subst (λ (x : ℕ). Counted x n) (let z : i ≡ end m = omega arith in z) C
     counted_on (suc f) i n e C =
         counted_on f (i + 1) (counted n i) (omega arith)

@@ -1,5 +1,5 @@
 -- A column filled number by number: what stands in it, and that nothing else changes.
-use Rattle.std.proofs.Common.{◌≡◌, ℕ, zero, suc, ◌+◌, ◌^◌, ◌<◌, ◌≤◌, List, map, length, sym, refl, ap, ◌∙◌, inl, inr, arith}
+use Rattle.std.proofs.Common.{◌⊎◌, inl, inr, ◌≡◌, ℕ, zero, suc, ◌+◌, ◌^◌, ◌<◌, ◌≤◌, List, map, length, sym, refl, ap, ◌∙◌, inl, inr, arith}
 use Rattle.std.specs.List.{range_with_len}
 use Rattle.std.proofs.lemmas.Bool.{cases_eq}
 use Rattle.row.specs.declared.column.Column.{Column}
@@ -9,17 +9,20 @@ use Rattle.row.proofs.Tabulated.{made_same}
 use Rattle.search.specs.MarkLaws.{Only}
 use Rattle.search.proofs.Frames.{Small, only_same, only_on, only_written}
 use Rattle.batch.specs.Arranging.{filled}
+use Rattle.batch.specs.Listing.{at_each}
 
 module _ (v : List ℕ → ℕ → ℕ) (c : Column) where
-  filled_out : (f : ℕ) (m : List ℕ) (i j : ℕ) → j < i → cell (filled v c f m i) c j ≡ cell m c j
-  unfolding filled
+  pub filled_out : (f : ℕ) (m : List ℕ) (i j : ℕ) → (j < i) ⊎ (i + f ≤ j) → cell (filled v c f m i) c j ≡ cell m c j
+  unfolding filled at_each
   filled_out zero m i j h = refl
   filled_out (suc f) m i j h =
-      filled_out f (written m c i (v m i)) (i + 1) j (omega arith) ∙ cell_other m c i j (v m i) (λ e. omega arith)
+      let far : (j < i + 1) ⊎ (i + 1 + f ≤ j) = elim h [ inl l ↦ inl (omega arith) | inr l ↦ inr (omega arith) ] in
+      let here : j ≡ i → ⊥ = λ e. elim h [ inl l ↦ omega arith | inr l ↦ omega arith ] in
+      filled_out f (written m c i (v m i)) (i + 1) j far ∙ cell_other m c i j (v m i) here
 
   -- whatever the memory
   pub only_filled : ((m : List ℕ) (i : ℕ) → Small m → v m i < 2 ^ 64) → (f : ℕ) (m : List ℕ) (i : ℕ) → Only c m (filled v c f m i)
-  unfolding filled
+  unfolding filled at_each
   only_filled s zero m i = only_same c m
   only_filled s (suc f) m i =
       let m₁ = written m c i (v m i) in
@@ -27,14 +30,14 @@ module _ (v : List ℕ → ℕ → ℕ) (c : Column) where
 
   -- if what v says doesn't depend on what is written
   module _ (same : (m : List ℕ) (i j k : ℕ) → v (written m c i k) j ≡ v m j) where
-    filled_in : (f : ℕ) (m : List ℕ) (i j : ℕ) → c.base + c.size ≤ length m → i ≤ j → j < i + f → j < c.size → cell (filled v c f m i) c j ≡ v m j
-    unfolding filled
+    pub filled_in : (f : ℕ) (m : List ℕ) (i j : ℕ) → c.base + c.size ≤ length m → i ≤ j → j < i + f → j < c.size → cell (filled v c f m i) c j ≡ v m j
+    unfolding filled at_each
     filled_in zero m i j l a b h = absurd (omega arith)
     filled_in (suc f) m i j l a b h =
         let m₁ = written m c i (v m i) in
         elim (cases_eq j i) [
           | inl e ↦
-              filled_out f m₁ (i + 1) j (omega arith) ∙ ap (cell m₁ c) e ∙ cell_same m c i (v m i) (omega arith) (omega arith) ∙ ap (v m) (sym e)
+              filled_out f m₁ (i + 1) j (inl (omega arith)) ∙ ap (cell m₁ c) e ∙ cell_same m c i (v m i) (omega arith) (omega arith) ∙ ap (v m) (sym e)
           | inr e ↦
               filled_in f m₁ (i + 1) j (omega (arith, length_written m c i (v m i))) (omega arith) (omega arith) h ∙ same m i j (v m i)
         ]

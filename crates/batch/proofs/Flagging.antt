@@ -13,20 +13,19 @@ use Rattle.links.specs.Building.{blanked}
 use Rattle.batch.specs.Layout.{spare, leaves}
 use Rattle.batch.specs.Circling.{flagged, stays, first_left}
 use Rattle.batch.specs.MakingAnew.{new_row}
-use Rattle.batch.proofs.Beside.{Beside, Off, beside_same, beside_on, beside_written, beside_blanked}
+use Rattle.batch.proofs.Beside.{Beside, Off, beside_on, beside_each, beside_written, beside_blanked}
 use Rattle.batch.proofs.Counting.{blanked_in}
+use Rattle.batch.specs.Listing.{at_each}
 
 beside_flagged : (T : Column → Type 0) → Off T leaves → (f : ℕ) (m : List ℕ) (i : ℕ) → Beside T m (flagged f m i)
 unfolding flagged
-beside_flagged T off zero m i = beside_same T m
-beside_flagged T off (suc f) m i =
-    let m₁ = written m leaves (cell m spare i) 1 in
-    beside_on T m m₁ (flagged f m₁ (i + 1)) (beside_written T m leaves (cell m spare i) 1 off (λ s. omega arith)) (beside_flagged T off f m₁ (i + 1))
+beside_flagged T off f m i =
+    beside_each T (λ m₁ j. written m₁ leaves (cell m₁ spare j) 1) (λ m₁ j. beside_written T m₁ leaves (cell m₁ spare j) 1 off (λ s. omega arith)) f m i
 
 -- after each has come, a slot has come if it had before, or is one of these
 flagged_is : (f : ℕ) (m : List ℕ) (i s : ℕ) → leaves.base + leaves.size ≤ length m → s < 8192 →
     eqb (cell (flagged f m i) leaves s) 0 ≡ (not (has (map (cell m spare) (range_with_len i f)) s) && eqb (cell m leaves s) 0)
-unfolding flagged any
+unfolding flagged at_each any
 flagged_is zero m i s l h = refl
 flagged_is (suc f) m i s l h =
     let t = cell m spare i in

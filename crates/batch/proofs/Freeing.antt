@@ -24,6 +24,7 @@ use Rattle.batch.specs.Layout.{spare, awaits, leaves}
 use Rattle.batch.specs.Renewing.{freed, freed_all, frees, lessened}
 use Rattle.batch.specs.RuleLaws.{within_row}
 use Rattle.batch.proofs.Beside.{Beside, beside_on, beside_freed, beside_lessened}
+use Rattle.batch.specs.Listing.{at_each}
 
 freed_marked : (n : List ℕ) (t : ℕ) → Summed n fore → cell n places t < 8192 →
     Summed (freed n t) fore
@@ -162,7 +163,7 @@ module _ (m : List ℕ) (T : Tidy m) where
       })
 
   frees_on : (A : ℕ → ℕ) (f : ℕ) (n : List ℕ) (i : ℕ) → i + f ≡ count m → Waiting (first i) A n → Waiting (first (count m)) A (freed_all f n i)
-  unfolding freed_all
+  unfolding freed_all at_each
   frees_on A zero n i e W = subst (λ (x : ℕ). Waiting (first x) A n) (let z : i ≡ count m = omega arith in z) W
   frees_on A (suc f) n i e W =
       let n₁ = freed n (cell n slots i) in

@@ -1,6 +1,7 @@
 pub mod Trying
 pub mod Checks
 pub mod SayingSteps
+pub mod Room
 pub mod Beginnings
 pub mod PlayedOn
 pub mod Joins
@@ -42,7 +43,6 @@ pub mod RuleRounds
 pub mod Sorts
 pub mod RuleRenames
 pub mod PartSorted
-pub mod SeatSteps
 pub mod Saving
 pub mod Reseating
 pub mod SaidSize
@@ -58,7 +58,7 @@ pub mod Coming
 pub mod Drawing
 pub mod AllCome
 pub mod MadeAnew
-pub mod FillSteps
+pub mod PlaceByPlace
 pub mod Filling
 pub mod LookUps
 pub mod ColumnSorted

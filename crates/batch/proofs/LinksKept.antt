@@ -1,5 +1,5 @@
 -- Several links said at once are done or refused rightly.
-use Rattle.std.proofs.Common.{◌≡◌, ℕ, ◌+◌, ◌<◌, ◌≤◌, true, false, not, leb, ◌≢◌, List, ◌++◌, length, take, Some, None, sym, refl, ap, ◌∙◌, subst, inl, inr, arith, length-append}
+use Rattle.std.proofs.Common.{◌≡◌, ℕ, ◌+◌, ◌<◌, ◌≤◌, true, false, leb, ◌≢◌, List, ◌++◌, length, take, Some, None, Option, sym, refl, ap, ◌∙◌, subst, inl, inr, arith, length-append}
 use Rattle.std.proofs.lemmas.Bool.{cases_Bool, cases_lt, both_ways, le-leb, lt-leb, leb-true}
 use Rattle.row.specs.declared.board.Link.{Link}
 use Rattle.row.specs.declared.board.Refusal.{Refusal}
@@ -19,15 +19,15 @@ use Rattle.keeper.proofs.Saying.{missing_is_not, exists_is_not, full_is_not}
 use Rattle.keeper.proofs.Carrying.{noted}
 use Rattle.keeper.proofs.Noting.{settles}
 use Rattle.keeper.proofs.ToldRuns.{from_first}
-use Rattle.batch.specs.declared.checking.Span.{Span}
+use Rattle.batch.specs.declared.seating.Span.{Span}
 use Rattle.batch.specs.Several.{all_there, with_links, said_before, closes, several_refusal, Becomes, past_named}
 use Rattle.batch.specs.SeveralLaws.{Between}
 use Rattle.batch.specs.Checking.{span}
 use Rattle.batch.specs.CheckLaws.{Names}
 use Rattle.batch.specs.Joining.{Tried, tried}
 use Rattle.batch.specs.JoinLaws.{AllIn, Stopped}
-use Rattle.batch.specs.UndoLaws.{put_aside, Covers}
-use Rattle.batch.specs.Saying.{undone, brought, by_trial, rearranged, said_several}
+use Rattle.batch.specs.UndoLaws.{Covers}
+use Rattle.batch.specs.Saying.{part_aside, undone, brought, by_trial, rearranged, said_several}
 use Rattle.batch.specs.Engine.{several, run_of}
 use Rattle.batch.specs.Promise.{small_link, small_saying, Settled, Done, Refused}
 use Rattle.batch.specs.Own.{answer, own}
@@ -41,7 +41,7 @@ use Rattle.batch.proofs.SeveralKept.{several_kept}
 use Rattle.batch.proofs.SeveralSingle.{several_single}
 use Rattle.batch.proofs.SeveralRound.{several_round}
 use Rattle.batch.proofs.SayingSteps.{brought_full, brought_kept, brought_told, trial_done, trial_round}
-use Rattle.batch.proofs.Tries.{means_fine}
+use Rattle.batch.proofs.Tries.{means_fine, tries}
 use Rattle.batch.proofs.SpanTold.{ToldSo, span_told}
 use Rattle.batch.proofs.Runs.{idle_first, first_done, first_refused, first_round}
 use Rattle.batch.proofs.Simulation.{Keeps, StepKept}
@@ -81,11 +81,11 @@ module _ (m : List ℕ) (r : Board) (ls : List Link) (long : length m ≡ 524288
 
   -- tried
   module _ (few : leb (length ls) 256 ≡ true) (there : all_there r ls ≡ true) (fresh : said_before r ls ≡ false) where
-    abbrev s : Span
-    s = span m ls
+    abbrev o : Option Span
+    o = span m ls
 
     abbrev m₀ : List ℕ
-    m₀ = put_aside m s
+    m₀ = part_aside m o
 
     abbrev t : Tried
     t = tried m₀ ls 0
@@ -93,45 +93,63 @@ module _ (m : List ℕ) (r : Board) (ls : List Link) (long : length m ≡ 524288
     room : length r.links + length ls ≤ 67584
     room = omega (arith, K.few, leb-true (length ls) 256 few)
 
-    said_is : said_several m ls ≡ by_trial t ls s
+    said_is : said_several m ls ≡ by_trial t ls o
     unfolding said_several rearranged
     said_is = rw (few, finds_all m r ls M ∙ there, repeats m r ls M there ∙ fresh) refl
 
-    back_is : s.back ≡ not (keeps r.row (r.links ++ ls))
-    back_is = (span_moves m r ls M there).0
+    -- the part of the row, if it has to change
+    kept_none : o ≡ None → keeps r.row (r.links ++ ls) ≡ true
+    kept_none e = let b = rw e at (span_moves m r ls M there).0 in grind arith
+
+    kept_not : (s : Span) → o ≡ Some s → keeps r.row (r.links ++ ls) ≡ false
+    kept_not s e = let b = rw e at (span_moves m r ls M there).0 in grind arith
+
+    part : (s : Span) → o ≡ Some s → Names r ls s
+    part = (span_moves m r ls M there).1
+
+    covers : (s : Span) → o ≡ Some s → Covers s r ls
+    covers s e =
+        let p = part s e in record { lower = omega (arith, p.0); higher = omega (arith, p.1); within = omega (arith, p.1, p.3) }
+
+    tried_so : (o₁ : Option Span) → (closes r ls ≡ false → AllIn (part_aside m o₁) r ls) × (closes r ls ≡ true → Stopped (part_aside m o₁) r ls)
+    unfolding part_aside
+    tried_so None = tries m r ls M small there fresh room
+    tried_so (Some s) = tries_saved m r ls _ _ M small there fresh room
 
     either : (closes r ls ≡ false → AllIn m₀ r ls) × (closes r ls ≡ true → Stopped m₀ r ls)
-    either = tries_saved m r ls _ _ M small there fresh room
+    either = tried_so o
 
-    -- the part of the row, if it has to change
-    module _ (moves : s.back ≡ true) where
-      part : Names r ls s
-      part = (span_moves m r ls M there).2 moves
+    -- links that were put in are taken out again
+    undone_stopped : (o₁ : Option Span) → o ≡ o₁ → closes r ls ≡ true → Stopped (part_aside m o₁) r ls →
+        Means (undone (tried (part_aside m o₁) ls 0).memory (take (tried (part_aside m o₁) ls 0).count ls) o₁) r
+    unfolding part_aside
+    undone_stopped None e round S = absurd ((several_round r ls (means_fine m r M) there round).1 r.row (kept_none e))
+    undone_stopped (Some s) e round S = undoes_stopped m r ls s M small there long (covers s e) S
 
-      covers : Covers s r ls
-      covers = record { lower = omega (arith, part.0); higher = omega (arith, part.1); within = omega (arith, part.1, part.3) }
+    means_more : (m₁ : List ℕ) → keeps r.row (r.links ++ ls) ≡ true → (A : AllIn m₁ r ls) → Means (tried m₁ ls 0).memory (with_links r ls)
+    means_more m₁ k A =
+        subst (λ (xs : List ℕ). Means (tried m₁ ls 0).memory (record { row = xs; links = r.links ++ ls })) (several_kept r ls A.row k A.becomes) A.means
+
+    undone_all : (o₁ : Option Span) → o ≡ o₁ → AllIn (part_aside m o₁) r ls → Means (undone (tried (part_aside m o₁) ls 0).memory ls o₁) r
+    unfolding part_aside
+    undone_all None e A = undoes_none _ r ls None small (λ s z. absurd (cc)) (means_more m (kept_none e) A)
+    undone_all (Some s) e A = undoes_all m r ls s M small there long (covers s e) A
 
     -- links that go round
     module _ (round : closes r ls ≡ true) where
       S : Stopped m₀ r ls
       S = either.1 round
 
-      moves : s.back ≡ true
-      moves = elim (cases_Bool (keeps r.row (r.links ++ ls))) [
-        | inl k ↦ absurd ((several_round r ls (means_fine m r M) there round).1 r.row k)
-        | inr k ↦ back_is ∙ rw k refl
-      ]
-
       abbrev k : List ℕ
-      k = undone t.memory (take t.count ls) s
+      k = undone t.memory (take t.count ls) o
 
       same : Means k r
-      same = undoes_stopped m r ls s M small there long (covers moves) S
+      same = undone_stopped o refl round S
 
       shown : StepKept own 3 m r (several ls)
       unfolding several_refusal Refused
       shown =
-          let e = said_is ∙ trial_round t ls s S.way S.is_way in
+          let e = said_is ∙ trial_round t ls o S.way S.is_way in
           refused_so m r ls _ (run_is _ e ∙ first_round k same.ready S.way) Cycle (rw (few, there, fresh, round) refl)
           (refl, refl, (λ _. (S.way, refl, S.round)), λ n. absurd (n refl))
           (record {
@@ -156,35 +174,16 @@ module _ (m : List ℕ) (r : Board) (ls : List Link) (long : length m ≡ 524288
           (counts t.memory N.ready.tabled).0 ∙ sym (names t.memory N.ready).length_links_named
           ∙ ap (λ (b : Board). length b.links) (sym N.is) ∙ length-append r.links ls
 
-      abbrev brings : said_several m ls ≡ brought t.memory ls s
-      brings = said_is ∙ trial_done t ls s A.no_way
-
-      -- the row keeps them already
-      module _ (stays : s.back ≡ false) where
-        kept_so : keeps r.row (r.links ++ ls) ≡ true
-        kept_so = let b = back_is in grind arith
-
-        same_row : row ≡ r.row
-        same_row = several_kept r ls row kept_so A.becomes
-
-        means_more : Means t.memory (with_links r ls)
-        means_more = subst (λ (xs : List ℕ). Means t.memory (record { row = xs; links = r.links ++ ls })) same_row A.means
-
-      restored : Means (undone t.memory ls s) r
-      restored = elim (cases_Bool s.back) [
-        | inl b ↦ undoes_all m r ls s M small there long (covers b) A
-        | inr b ↦
-            let n = (span_moves m r ls M there).1 b in
-            undoes_none t.memory r ls s small (omega (arith, ap (λ (x : Span). x.low) n, ap (λ (x : Span). x.high) n)) (means_more b)
-      ]
+      abbrev brings : said_several m ls ≡ brought t.memory ls o
+      brings = said_is ∙ trial_done t ls o A.no_way
 
       too_many : 65536 < length r.links + length ls → StepKept own 3 m r (several ls)
       unfolding several_refusal Refused
       too_many h =
-          let e = brings ∙ brought_full t.memory ls s (omega (arith, counted)) in
-          refused_so m r ls _ (run_is _ e ∙ first_refused (undone t.memory ls s) Full) Full
+          let e = brings ∙ brought_full t.memory ls o (omega (arith, counted)) in
+          refused_so m r ls _ (run_is _ e ∙ first_refused (undone t.memory ls o) Full) Full
           (rw (few, there, fresh, flat, lt-leb _ 65536 h) refl)
-          (refl, refl, (λ y. absurd (full_is_not y)), λ _. refl) (record { means = restored; few = K.few })
+          (refl, refl, (λ y. absurd (full_is_not y)), λ _. refl) (record { means = undone_all o refl A; few = K.few })
 
       module _ (h : length r.links + length ls ≤ 65536) where
         allowed : several_refusal r ls ≡ None
@@ -194,31 +193,32 @@ module _ (m : List ℕ) (r : Board) (ls : List Link) (long : length m ≡ 524288
         fits_in : length (r.links ++ ls) ≤ 65536
         fits_in = omega (arith, length-append r.links ls)
 
-        unmoved : s.back ≡ false → StepKept own 3 m r (several ls)
+        unmoved : o ≡ None → StepKept own 3 m r (several ls)
         unfolding Done told_rows every
         unmoved b =
-            let e = brings ∙ brought_kept t.memory ls s (omega (arith, counted)) b in
+            let k = kept_none b in
+            let e = brings ∙ ap (brought t.memory ls) b ∙ brought_kept t.memory ls (omega (arith, counted)) in
             done_so m r ls _ (run_is _ e ∙ first_done t.memory) allowed (
               refl,
               refl,
-              settled r ls r.row (means_fine m r M) there (subst (Becomes r ls) (same_row b) A.becomes),
-              kept_so b,
+              settled r ls r.row (means_fine m r M) there (subst (Becomes r ls) (several_kept r ls row k A.becomes) A.becomes),
+              k,
               ((λ _. refl), refl),
             )
-            (record { means = means_more b; few = fits_in })
+            (record { means = means_more m₀ k A; few = fits_in })
 
-        told : s.back ≡ true → ToldSo t.memory (record { row = row; links = r.links ++ ls }) s
-        told b =
-            let p = part b in
+        told : (s : Span) → o ≡ Some s → ToldSo t.memory (record { row = row; links = r.links ++ ls }) s
+        told s b =
+            let p = part s b in
             span_told t.memory (record { row = row; links = r.links ++ ls }) A.means s (omega (arith, p.0, p.1, p.2))
             (omega (arith, p.1, p.3, B.as_long))
 
-        moved : s.back ≡ true → StepKept own 3 m r (several ls)
+        moved : (s : Span) → o ≡ Some s → StepKept own 3 m r (several ls)
         unfolding Done
-        moved b =
-            let p = part b in
-            let e = brings ∙ brought_told t.memory ls s (omega (arith, counted)) b in
-            let T = told b in
+        moved s b =
+            let p = part s b in
+            let e = brings ∙ ap (brought t.memory ls) b ∙ brought_told t.memory ls s (omega (arith, counted)) in
+            let T = told s b in
             let n = T.makes r.row (rw (p.0, p.1) (record { long = sym B.as_long; front = sym B.front; rest = sym B.rest })) in
             done_so m r ls _ (run_is _ e ∙ T.run) allowed (
               refl,
@@ -226,17 +226,21 @@ module _ (m : List ℕ) (r : Board) (ls : List Link) (long : length m ≡ 524288
               rw n (settled r ls row (means_fine m r M) there A.becomes),
               rw n (fine_parts _ B.fine_so).kept,
               (
-                (λ k. absurd (let q = back_is in both_ways _ (q ∙ rw k refl) b)),
+                (λ k. absurd (both_ways _ (kept_not s b) k)),
                 subst (λ (i : ℕ). every (within i (past_named r ls)) T.parts ≡ true) p.0
                     (subst (λ (j : ℕ). every (within s.low j) T.parts ≡ true) p.1 T.inside),
               ),
             )
             (record { means = rw n T.means; few = fits_in })
 
+        by_part : (o₁ : Option Span) → o ≡ o₁ → StepKept own 3 m r (several ls)
+        by_part None e = unmoved e
+        by_part (Some s) e = moved s e
+
       all_in : StepKept own 3 m r (several ls)
       all_in = elim (cases_lt 65536 (length r.links + length ls)) [
         | inl h ↦ too_many h
-        | inr h ↦ elim (cases_Bool s.back) [ inl b ↦ moved h b | inr b ↦ unmoved h b ]
+        | inr h ↦ by_part h o refl
       ]
 
   pub several_links_kept : StepKept own 3 m r (several ls)

@@ -6,25 +6,30 @@ use Rattle.row.specs.declared.board.Refusal.{Refusal}
 use Rattle.row.specs.Moves.{came}
 use Rattle.batch.specs.Loading.{cards_come, put_one, put_all}
 
-module _ (m ks : List ℕ) (i d : ℕ) (h : i < length ks) where
-  pub cards_on : (s : ℕ) → (came m (get_or ks i d)).answer ≡ Ok s → cards_come m (drop i ks) ≡ cards_come (came m (get_or ks i d)).memory (drop (i + 1) ks)
+module _ (m ks : List ℕ) (i : ℕ) where
+  pub cards_on : (s : ℕ) → i < length ks → (came m (get_or ks i 0)).answer ≡ Ok s →
+      cards_come m (drop i ks) ≡ cards_come (came m (get_or ks i 0)).memory (drop (i + 1) ks)
   unfolding cards_come
-  cards_on s e = at_drop_more (cards_come m) ks i d h ∙ rw e refl
+  cards_on s h e = at_drop_more (cards_come m) ks i 0 h ∙ rw e refl
 
-  pub cards_up : (e : Refusal) → (came m (get_or ks i d)).answer ≡ Err e →
-      cards_come m (drop i ks) ≡ record { memory = (came m (get_or ks i d)).memory; refused = Some e }
+  pub cards_up : (e : Refusal) → i < length ks → (came m (get_or ks i 0)).answer ≡ Err e →
+      cards_come m (drop i ks) ≡ record { memory = (came m (get_or ks i 0)).memory; refused = Some e }
   unfolding cards_come
-  cards_up e z = at_drop_more (cards_come m) ks i d h ∙ rw z refl
+  cards_up e h z = at_drop_more (cards_come m) ks i 0 h ∙ rw z refl
 
-pub cards_end : (m ks : List ℕ) (i : ℕ) → length ks ≤ i → cards_come m (drop i ks) ≡ record { memory = m; refused = None }
-unfolding cards_come
-cards_end m ks i h = at_drop_all (cards_come m) ks i h
+  pub cards_end : length ks ≤ i → cards_come m (drop i ks) ≡ record { memory = m; refused = None }
+  unfolding cards_come
+  cards_end h = at_drop_all (cards_come m) ks i h
+
+pub ruleset cards = (cards_on, cards_up, cards_end)
 
 module _ (m : List ℕ) (ls : List Link) (i : ℕ) where
-  pub put_on : (d : Link) → i < length ls → put_all m (drop i ls) ≡ put_all (put_one m (get_or ls i d)) (drop (i + 1) ls)
+  pub put_on : i < length ls → put_all m (drop i ls) ≡ put_all (put_one m (get_or ls i (record { from = 0; to = 0 }))) (drop (i + 1) ls)
   unfolding put_all
-  put_on d h = at_drop_more (put_all m) ls i d h
+  put_on h = at_drop_more (put_all m) ls i _ h
 
   pub put_end : length ls ≤ i → put_all m (drop i ls) ≡ m
   unfolding put_all
   put_end h = at_drop_all (put_all m) ls i h
+
+pub ruleset puts = (put_on, put_end)

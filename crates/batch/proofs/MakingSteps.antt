@@ -1,17 +1,17 @@
 -- The ways in which a row is made anew: refused, shown, or a circle shown.
-use Rattle.std.proofs.Common.{◌≡◌, ℕ, ◌<◌, ◌≤◌, false, List, length, replicate, Some, None, Option, sym, ◌∙◌}
+use Rattle.std.proofs.Common.{◌≡◌, ℕ, ◌<◌, ◌≤◌, false, List, length, replicate, Some, None, sym, ◌∙◌, Result, Ok, Err}
 use Rattle.std.proofs.lemmas.Bool.{lt-ltb, le-ltb, le-leb, eq-eqb}
 use Rattle.row.specs.declared.board.Link.{Link}
 use Rattle.row.specs.declared.board.Refusal.{Refusal}
 use Rattle.row.specs.Layout.{count}
-use Rattle.search.specs.Way.{over}
 use Rattle.keeper.specs.declared.event.Reason.TheVariants.{Unfit, Board}
 use Rattle.keeper.specs.Own.{step_fits}
-use Rattle.batch.specs.declared.making_anew.Anew.TheVariants.{Row, Circle, Refused}
+use Rattle.batch.specs.Joining.{unless}
+use Rattle.batch.proofs.Trying.{unless_ok, unless_err}
 use Rattle.batch.specs.Loading.{Loaded, loaded}
 use Rattle.batch.specs.Renewing.{renewed}
 use Rattle.batch.specs.Circling.{traced, round}
-use Rattle.batch.specs.MakingAnew.{new_row, shown_row, shown_circle, ended, made, made_anew}
+use Rattle.batch.specs.MakingAnew.{shown_row, shown_circle, ended, made, made_anew}
 
 module _ (m : List ℕ) (n : ℕ) (out : List ℕ) where
   pub ended_round : n < count m → ended m n out ≡ shown_circle (traced m n) (round (traced m n) (length out)) out
@@ -22,16 +22,8 @@ module _ (m : List ℕ) (n : ℕ) (out : List ℕ) where
   unfolding ended
   ended_row h = rw (le-ltb n (count m) h)
 
-  -- the same of what the code has come to
-  pub ends_round : (k : ℕ) (last shown : List ℕ) → n < count m → k ≡ length (round (traced m n) (length out)) → last ≡ traced m n →
-      shown ≡ over (traced m n) (round (traced m n) (length out)) k out → record { answer = Circle k; memory = last; out = shown } ≡ ended m n out
-  ends_round k last shown h x y z = rw (z, y, x) (sym (ended_round h))
-
-  pub ends_row : (shown : List ℕ) → count m ≤ n → shown ≡ over m (new_row m n) n out → record { answer = Row n; memory = m; out = shown } ≡ ended m n out
-  ends_row shown h z = rw z (sym (ended_row h))
-
 module _ (x : Loaded) (out : List ℕ) where
-  pub made_refused : (e : Refusal) → x.refused ≡ Some e → made x out ≡ record { answer = Refused (Board e); memory = x.memory; out = out }
+  pub made_refused : (e : Refusal) → x.refused ≡ Some e → made x out ≡ record { answer = Err (Board e); memory = x.memory; out = out }
   unfolding made
   made_refused e h = rw h
 
@@ -40,7 +32,7 @@ module _ (x : Loaded) (out : List ℕ) where
   made_so h = rw h
 
 module _ (m ks : List ℕ) (ls : List Link) (out : List ℕ) where
-  pub anew_unfit : step_fits m out ≡ false → made_anew m ks ls out ≡ record { answer = Refused Unfit; memory = m; out = out }
+  pub anew_unfit : step_fits m out ≡ false → made_anew m ks ls out ≡ record { answer = Err Unfit; memory = m; out = out }
   unfolding made_anew
   anew_unfit h = rw h
 
@@ -53,10 +45,10 @@ module _ (m ks : List ℕ) (ls : List Link) (out : List ℕ) where
     abbrev x : Loaded
     x = loaded (replicate (length m) 0) ks ls
 
-    pub anew_refused : (last : List ℕ) (o : Option Refusal) (why : Refusal) → o ≡ x.refused → o ≡ Some why → last ≡ x.memory →
-        record { answer = Refused (Board why); memory = last; out = out } ≡ made_anew m ks ls out
-    anew_refused last o why q r y = rw y (sym (anew_fits e h ∙ made_refused x out why (sym q ∙ r)))
+    pub anew_refused : (last : List ℕ) (a : Result (Unit {0}) Refusal) (why : Refusal) → a ≡ unless x.refused → a ≡ Err why → last ≡ x.memory →
+        record { answer = Err (Board why); memory = last; out = out } ≡ made_anew m ks ls out
+    anew_refused last a why q r y = rw y (sym (anew_fits e h ∙ made_refused x out why (unless_err x.refused why (sym q ∙ r))))
 
-    pub anew_so : (last : List ℕ) (o : Option Refusal) → o ≡ x.refused → o ≡ None → last ≡ x.memory →
+    pub anew_so : (last : List ℕ) (a : Result (Unit {0}) Refusal) (z : Unit {0}) → a ≡ unless x.refused → a ≡ Ok z → last ≡ x.memory →
         ended (renewed last).memory (renewed last).came out ≡ made_anew m ks ls out
-    anew_so last o q r y = rw y (sym (anew_fits e h ∙ made_so x out (sym q ∙ r)))
+    anew_so last a z q r y = rw y (sym (anew_fits e h ∙ made_so x out (unless_ok x.refused z (sym q ∙ r))))

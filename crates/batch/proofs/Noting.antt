@@ -9,6 +9,7 @@ use Rattle.search.proofs.Frames.{small_cell}
 use Rattle.batch.specs.Layout.{leaves, numbers}
 use Rattle.batch.specs.Circling.{stays, noted, noted_all}
 use Rattle.batch.proofs.Beside.{Beside, beside_on, beside_written}
+use Rattle.batch.specs.Listing.{at_each}
 
 abbrev pub NotNumbers : Column → Type 0
 NotNumbers d = apart numbers d ≡ true
@@ -70,19 +71,19 @@ module _ (m : List ℕ) (e : ℕ) (long : numbers.base + numbers.size ≤ length
     ]
 
   pub beside_noted_all : (f : ℕ) (x : List ℕ) (i : ℕ) → Beside NotNumbers m x → Beside NotNumbers m (noted_all f x i)
-  unfolding noted_all
+  unfolding noted_all at_each
   beside_noted_all zero x i b = b
   beside_noted_all (suc f) x i b = beside_noted_all f (noted x i) (i + 1) (beside_noted x b i)
 
   all_still : (f : ℕ) (x : List ℕ) (i t : ℕ) → Beside NotNumbers m x → i + f ≤ e → t < 8192 → Noted t x → Noted t (noted_all f x i)
-  unfolding noted_all
+  unfolding noted_all at_each
   all_still zero x i t b l h w = w
   all_still (suc f) x i t b l h w =
       all_still f (noted x i) (i + 1) t (beside_noted x b i) (omega arith) h (noted_still x b i t h (omega arith) w)
 
   pub all_noted : (f : ℕ) (x : List ℕ) (i j t : ℕ) → Beside NotNumbers m x → i + f ≤ e → i ≤ j → j < i + f → stays m (cell m froms j) ≡ true →
       cell m tos j ≡ t → t < 8192 → Noted t (noted_all f x i)
-  unfolding noted_all
+  unfolding noted_all at_each
   all_noted zero x i j t b l u v z y h = absurd (omega arith)
   all_noted (suc f) x i j t b l u v z y h = elim (cases_eq i j) [
     | inl k ↦

@@ -1,7 +1,6 @@
 -- A command, and a row made anew, are done or refused rightly.
 use Rattle.std.proofs.Common.{◌≡◌, ℕ, ◌≤◌, Bool, true, false, cond, ◌&&◌, leb, List, [], ◌∷◌, length, Some, None, arith, length-append}
 use Rattle.std.proofs.lemmas.Bool.{leb-false}
-use Rattle.std.proofs.lemmas.Bool.Decides.{nat_tests}
 use Rattle.row.specs.declared.board.Link.{Link}
 use Rattle.row.specs.declared.board.Command.{Command}
 use Rattle.row.specs.declared.board.Command.TheVariants.{Comes, Goes, Link as Links, Unlink as Unlinks, Places}
@@ -18,15 +17,11 @@ use Rattle.batch.specs.Own.{own}
 use Rattle.batch.proofs.Simulation.{Keeps, StepKept}
 use Rattle.batch.proofs.Runs.{run_command}
 use Rattle.batch.proofs.Tries.{means_fine}
+use Rattle.batch.proofs.Within.{filter_no_longer}
 
 -- a command leaves no more links than there may be
-fewer : (f : Link → Bool) (xs : List Link) → length (filter f xs) ≤ length xs
-unfolding filter
-fewer f [] = omega arith
-fewer f (x ∷ xs) = let ih = fewer f xs in grind (arith, nat_tests)
-
 rest_few : (f : Link → Bool) (xs : List Link) → length xs ≤ 65536 → length (filter f xs) ≤ 65536
-rest_few f xs h = omega (arith, fewer f xs)
+rest_few f xs h = omega (arith, filter_no_longer f xs)
 
 room : (w x y z : Bool) → cond w (cond x (Some Exists) (cond y (Some Cycle) (cond z (Some Full) None))) (Some Missing) ≡ None → z ≡ false
 room w x y z e = grind arith

@@ -69,12 +69,6 @@ module _ (m : List ℕ) (low high : ℕ) where
     | inr n ↦ ap (λ (zs : List ℕ). get_or zs i d) (no_part n)
   ]
 
-  pub inside_part : (i d : ℕ) → low ≤ i → i < high → high ≤ length m →
-      get_or (sorted_part m low high) i d ≡ get_or (sorted (between low high m)) (i - low) d
-  inside_part i d l k h =
-      let lh : low ≤ high = omega arith in
-      rw (part_there lh h) (inside_put m (sorted (between low high m)) low high i d lh h (length_there lh h) l k)
-
   pub part_is : low ≤ high → high ≤ length m → between low high (sorted_part m low high) ≡ sorted (between low high m)
   part_is l h =
       rw (part_there l h)

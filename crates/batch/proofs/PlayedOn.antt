@@ -1,47 +1,46 @@
--- A step of the loop that plays a saying, against its model.
-use Rattle.std.proofs.Common.{◌≡◌, ℕ, ◌+◌, ◌-◌, ◌<◌, ◌≤◌, Bool, true, false, List, Some, None, refl, ap, ◌∙◌}
+-- A saying that is played goes on from its first answer as the keeper does.
+use Rattle.std.proofs.Common.{◌≡◌, ℕ, zero, suc, Bool, true, false, List, Ok, Err, Result, refl, ap, ◌∙◌}
+use Rattle.keeper.specs.declared.event.Event.TheVariants.{Next}
 use Rattle.keeper.specs.declared.event.Reason.{Reason}
-use Rattle.keeper.specs.declared.event.Reason.TheVariants.{Busy}
 use Rattle.keeper.specs.declared.event.Act.{Act}
-use Rattle.keeper.specs.declared.event.Act.TheVariants.{Tells, Shows, Done, Refused}
-use Rattle.row.proofs.Fuel.{fuel_step, fuel_end}
+use Rattle.keeper.specs.declared.event.Act.TheVariants.{Tells, Shows, Done}
 use Rattle.keeper.specs.Own.{step_fits}
-use Rattle.keeper.proofs.PlayedOn.{to, ending}
+use Rattle.keeper.specs.Playing.{Stepped, stepped as keeper_stepped, Ending, by_act, plays as keeper_plays, played_on}
+use Rattle.keeper.proofs.PlayedOn.{to}
 use Rattle.batch.specs.Engine.{Heard, next}
-use Rattle.batch.specs.Own.{StepBy, StepSays}
+use Rattle.batch.specs.Own.{answer, StepBy, StepSays}
 use Rattle.batch.specs.Playing.{stepped, plays}
-use Rattle.keeper.specs.Playing.{Stepped, by_act}
 
-stepped_by : (b : Bool) (m : List ℕ) (h : Heard) (out : List ℕ) (r : Act) (m₁ out₁ : List ℕ) → step_fits m out ≡ b → StepBy b m h out r m₁ out₁ →
-    stepped m h out ≡ to r m₁ out₁
+act_goes : (go go₁ : List ℕ → List ℕ → ℕ → Ending) → ((m out : List ℕ) (s : ℕ) → go m out s ≡ go₁ m out s) →
+    (m out : List ℕ) (s : ℕ) (a : Result Act Reason) → by_act go m out s a ≡ by_act go₁ m out s a
+unfolding by_act
+act_goes go go₁ e m out s (Ok (Tells p n)) = e m out s
+act_goes go go₁ e m out s (Ok (Shows n)) = e m out n
+act_goes go go₁ e m out s (Ok Done) = refl
+act_goes go go₁ e m out s (Err w) = refl
+
+stepped_on : (m out : List ℕ) → stepped m next out ≡ keeper_stepped m Next out
+unfolding stepped keeper_stepped answer
+stepped_on m out = refl
+
+plays_on : (n : ℕ) (m out : List ℕ) (s : ℕ) → plays n m next out s ≡ keeper_plays n m Next out s
+unfolding plays keeper_plays
+plays_on zero m out s = refl
+plays_on (suc n) m out s =
+    let go = λ (m₁ out₁ : List ℕ) (s₁ : ℕ). plays n m₁ next out₁ s₁ in
+    ap (λ (x : Stepped). by_act go x.memory x.out s x.act) (stepped_on m out)
+    ∙ act_goes go (λ m₁ out₁ s₁. keeper_plays n m₁ Next out₁ s₁) (plays_on n) _ _ s _
+
+stepped_by : (b : Bool) (m : List ℕ) (h : Heard) (out : List ℕ) (r : Result Act Reason) (m₁ out₁ : List ℕ) → step_fits m out ≡ b →
+    StepBy b m h out r m₁ out₁ → stepped m h out ≡ to r m₁ out₁
 unfolding stepped StepBy
 stepped_by true m h out r m₁ out₁ f t = rw (f, t.act, t.memory, t.told)
 stepped_by false m h out r m₁ out₁ f t = rw (f, t.act, t.memory, t.told)
 
-module _ (i : ℕ) (m : List ℕ) (h : Heard) (out : List ℕ) (r : Act) (m₁ out₁ : List ℕ) (s : ℕ) (l : i < 3) (t : StepSays m h out r m₁ out₁) where
-  goes_by : plays (3 - i) m h out s ≡ by_act (λ m₂ out₂ s₂. plays (3 - (i + 1)) m₂ next out₂ s₂) m₁ out₁ s r
-  unfolding plays
-  goes_by =
-      fuel_step (λ n. plays n m h out s) 3 i l
-      ∙ ap (λ (x : Stepped). by_act (λ m₂ out₂ s₂. plays (3 - (i + 1)) m₂ next out₂ s₂) x.memory x.out s x.act)
-      (stepped_by (step_fits m out) m h out r m₁ out₁ refl t)
-
-  pub plays_tells : (p n : ℕ) → r ≡ Tells p n → plays (3 - i) m h out s ≡ plays (3 - (i + 1)) m₁ next out₁ s
-  unfolding by_act
-  plays_tells p n e = goes_by ∙ (rw e)
-
-  pub plays_shows : (n : ℕ) → r ≡ Shows n → plays (3 - i) m h out s ≡ plays (3 - (i + 1)) m₁ next out₁ n
-  unfolding by_act
-  plays_shows n e = goes_by ∙ (rw e)
-
-  pub plays_done : r ≡ Done → plays (3 - i) m h out s ≡ ending s None m₁ out₁
-  unfolding by_act
-  plays_done e = goes_by ∙ (rw e)
-
-  pub plays_refused : (w : Reason) → r ≡ Refused w → plays (3 - i) m h out s ≡ ending s (Some w) m₁ out₁
-  unfolding by_act
-  plays_refused w e = goes_by ∙ (rw e)
-
-pub plays_end : (i : ℕ) (m : List ℕ) (h : Heard) (out : List ℕ) (s : ℕ) → 3 ≤ i → plays (3 - i) m h out s ≡ ending s (Some Busy) m out
+pub plays_first : (n : ℕ) (m : List ℕ) (h : Heard) (out : List ℕ) (r : Result Act Reason) (m₁ out₁ : List ℕ) (s : ℕ) → StepSays m h out r m₁ out₁ →
+    plays (suc n) m h out s ≡ played_on n m₁ r out₁ s
 unfolding plays
-plays_end i m h out s l = fuel_end (λ n. plays n m h out s) 3 i l
+plays_first n m h out r m₁ out₁ s t =
+    let go = λ (m₂ out₂ : List ℕ) (s₂ : ℕ). plays n m₂ next out₂ s₂ in
+    ap (λ (x : Stepped). by_act go x.memory x.out s x.act) (stepped_by (step_fits m out) m h out r m₁ out₁ refl t)
+    ∙ act_goes go (λ m₂ out₂ s₂. keeper_plays n m₂ Next out₂ s₂) (plays_on n) m₁ out₁ s r

@@ -1,5 +1,5 @@
 -- A saying that is played shows what its run on the engine shows, and that stands at the front of the output.
-use Rattle.std.proofs.Common.{◌≡◌, ℕ, zero, suc, ◌≤◌, true, List, [], ◌∷◌, ◌++◌, length, take, Some, sym, refl, ap, ◌∙◌, subst, arith, length-append, length-take}
+use Rattle.std.proofs.Common.{Ok, Err, Result, ◌≡◌, ℕ, zero, suc, ◌≤◌, true, List, [], ◌∷◌, ◌++◌, length, take, Some, sym, refl, ap, ◌∙◌, subst, arith, length-append, length-take}
 use lib.ListN.{length-replicate}
 use Rattle.std.proofs.lemmas.List.{take_all, take_at}
 use Rattle.std.proofs.lemmas.Bool.{le-leb}
@@ -8,7 +8,8 @@ use Rattle.row.specs.declared.board.Refusal.TheVariants.{Cycle}
 use Rattle.row.specs.Board.{Board}
 use Rattle.row.specs.Commands.{refusal, Told}
 use Rattle.keeper.specs.declared.event.Act.{Act}
-use Rattle.keeper.specs.declared.event.Act.TheVariants.{Tells, Shows, Done, Refused}
+use Rattle.keeper.specs.declared.event.Reason.{Reason}
+use Rattle.keeper.specs.declared.event.Act.TheVariants.{Tells, Shows, Done}
 use Rattle.keeper.specs.Engine.{action_of, Ran, one_act}
 use Rattle.keeper.specs.Promise.{shown_for, RoundShown}
 use Rattle.keeper.specs.Sister.{ToldNeeded}
@@ -51,14 +52,14 @@ shown_front ts ss n ks out l = record {
 
 module _ (go : Go) (on : List ℕ → List ℕ → ℕ → Ending) (ts : List Told) (ss : List (List ℕ)) (m ks out : List ℕ) (s : ℕ) (h : Showing ts ss s out)
     (f : (ts₁ : List Told) (ss₁ : List (List ℕ)) (s₁ : ℕ) → Showing ts₁ ss₁ s₁ (fronted ks out) → ShowsSo (go m ts₁ ss₁) (on m (fronted ks out) s₁)) where
-  act_shows : (a : Act) → CountedBy a ks → ShowsSo (one_act go ts ss m (action_of a ks)) (by_act on m (fronted ks out) s a)
+  act_shows : (a : Result Act Reason) → CountedBy a ks → ShowsSo (one_act go ts ss m (action_of a ks)) (by_act on m (fronted ks out) s a)
   unfolding one_act by_act
-  act_shows (Tells p n) l =
+  act_shows (Ok (Tells p n)) l =
       rw (le-leb (length (take n ks)) 4096 (omega (arith, length-take n ks)))
       (f _ ss s (record { none = h.none; single = λ js e. absurd (not_none ts _ e) }))
-  act_shows (Shows n) l = f ts _ n (shown_front ts ss n ks out l)
-  act_shows Done l = rw l h
-  act_shows (Refused e) l = rw l h
+  act_shows (Ok (Shows n)) l = f ts _ n (shown_front ts ss n ks out l)
+  act_shows (Ok Done) l = rw l h
+  act_shows (Err e) l = rw l h
 
 run_shows : (n : ℕ) (m : List ℕ) (h : Heard) (out : List ℕ) (ts : List Told) (ss : List (List ℕ)) (s : ℕ) → length m ≡ 524288 → 8192 ≤ length out →
     small_heard h ≡ true → Showing ts ss s out → ShowsSo (runs n own m h ts ss) (plays n m h out s)

@@ -1,30 +1,12 @@
 -- The steps of the loops that make the row anew.
 use Rattle.std.proofs.Common.{◌≡◌, ℕ, ◌+◌, ◌-◌, ◌<◌, ◌≤◌, List, Some, None}
-use Rattle.row.specs.Columns.{cell}
-use Rattle.row.specs.Layout.{slots}
 use Rattle.row.specs.Lookup.{given}
 use Rattle.row.proofs.Fuel.{fuel_step, fuel_end}
 use Rattle.links.specs.declared.chain.Chain.TheVariants.{Out}
 use Rattle.links.specs.Chains.{met, stepped}
 use Rattle.search.specs.Layout.{fore}
 use Rattle.search.specs.Marks.{first_mark}
-use Rattle.batch.specs.Renewing.{counted, counted_all, freed, freed_all, next_by, left_by, released, drawn, Renewed, renewing}
-
-pub counted_go : (N i : ℕ) (m : List ℕ) → i < N → counted_all (N - i) m i ≡ counted_all (N - (i + 1)) (counted m i) (i + 1)
-unfolding counted_all
-counted_go N i m h = fuel_step (λ f. counted_all f m i) N i h
-
-pub counted_end : (N i j : ℕ) (m : List ℕ) → N ≤ i → counted_all (N - i) m j ≡ m
-unfolding counted_all
-counted_end N i j m h = fuel_end (λ f. counted_all f m j) N i h
-
-pub freed_go : (N i : ℕ) (m : List ℕ) → i < N → freed_all (N - i) m i ≡ freed_all (N - (i + 1)) (freed m (cell m slots i)) (i + 1)
-unfolding freed_all
-freed_go N i m h = fuel_step (λ f. freed_all f m i) N i h
-
-pub freed_end : (N i j : ℕ) (m : List ℕ) → N ≤ i → freed_all (N - i) m j ≡ m
-unfolding freed_all
-freed_end N i j m h = fuel_end (λ f. freed_all f m j) N i h
+use Rattle.batch.specs.Renewing.{next_by, left_by, released, drawn, Renewed, renewing}
 
 released_at : (N i : ℕ) (m : List ℕ) (p : ℕ) → i < N →
     released (N - i) m p
@@ -62,8 +44,6 @@ renewing_go N i m p h e = rw e at (renewing_at N i m h)
 pub renewing_end : (N i : ℕ) (m : List ℕ) → N ≤ i → renewing (N - i) m i ≡ all_came m i
 unfolding renewing
 renewing_end N i m h = fuel_end (λ f. renewing f m i) N i h
-
-pub ruleset preparing = (counted_go, counted_end, freed_go, freed_end)
 
 pub ruleset releasing = (released_stop, released_go, released_end)
 

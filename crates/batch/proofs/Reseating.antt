@@ -12,6 +12,7 @@ use Rattle.row.proofs.Cells.{length_written}
 use Rattle.row.proofs.Tabulated.{made_same, made_has, has_made, distinct_made, drop_made, take_made}
 use Rattle.row.proofs.Parts.{with_part, row_in_parts}
 use Rattle.search.proofs.Frames.{small_written, small_cell}
+use Rattle.search.proofs.Listed.{counting_has}
 use Rattle.search.proofs.Exchanged.{with_at, at_here, exchanged, exchanged_out}
 use Rattle.search.proofs.Dealing.{put_one, put, put_one_apart, put_slots, put_places}
 use Rattle.search.proofs.Seating.{Rearranges, Seats, used_same, seated_standing}
@@ -19,16 +20,12 @@ use Rattle.keeper.proofs.OwnSize.{size_each}
 use Rattle.batch.specs.Layout.{spare}
 use Rattle.batch.specs.Seating.{reseated}
 use Rattle.batch.specs.SeatLaws.{OnlySeats, Seated, Reseats, ReseatsOnly}
+use Rattle.batch.specs.Listing.{at_each}
 
 -- numbers in a row
-in_counting : (a n k : ℕ) → has (range_with_len a n) k ≡ true → (a ≤ k) × (k < a + n)
-in_counting a n k h =
-    let w = made_has (λ p. p) a n k (ap (λ (xs : List ℕ). has xs k) (map-id (range_with_len a n)) ∙ h) in
-    (omega (arith, w.1, w.3), omega (arith, w.2, w.3))
-
 out_counting : (a n k : ℕ) → (k < a) ⊎ (a + n ≤ k) → has (range_with_len a n) k ≡ false
 out_counting a n k h = elim (cases_Bool (has (range_with_len a n) k)) [
-  | inl e ↦ let c = in_counting a n k e in absurd (elim h [ inl l ↦ omega arith | inr l ↦ omega arith ])
+  | inl e ↦ let c = counting_has a n k e in absurd (elim h [ inl l ↦ omega arith | inr l ↦ omega arith ])
   | inr e ↦ e
 ]
 
@@ -46,7 +43,7 @@ exchanged_row g a (suc n) (k ∷ ks) e =
     (exchanged_row (with_at g a k) (a + 1) n ks (omega arith))
 
 reseated_put : (m : List ℕ) (p n : ℕ) → reseated n m p ≡ put m (range_with_len p n) (map (cell m spare) (range_with_len p n))
-unfolding reseated put
+unfolding reseated at_each put
 reseated_put m p zero = refl
 reseated_put m p (suc n) =
     let m₁ = put_one m p (cell m spare p) in
@@ -56,7 +53,7 @@ reseated_put m p (suc n) =
 
 -- whatever the memory
 only_reseated : (m : List ℕ) (p n : ℕ) → p + n ≤ 2 ^ 64 → OnlySeats m (reseated n m p)
-unfolding reseated
+unfolding reseated at_each
 only_reseated m p zero h = record { as_long = refl; others = λ d j a b. refl; small = λ s. s }
 only_reseated m p (suc n) h =
     let k = cell m spare p in
@@ -90,12 +87,12 @@ module _ (m : List ℕ) (lo n : ℕ) (S : Stands m) (few : lo + n ≤ count m) (
 
   rearranged : Rearranges (count m) slot ps ks
   rearranged = record {
-    low = λ p h. let c = in_counting lo n p h in omega arith;
+    low = λ p h. let c = counting_has lo n p h in omega arith;
     as_many = length-map ps (cell m spare);
     ps_once = counting_once lo n;
     ks_once = once;
     from = λ s h. let w = made_has slot lo n s (sym (same s) ∙ h) in (w.0, in_mid w.0 w.1 w.2, w.3);
-    all = λ p h. let c = in_counting lo n p h in same (slot p) ∙ has_made slot lo n (slot p) p c.0 c.1 refl;
+    all = λ p h. let c = counting_has lo n p h in same (slot p) ∙ has_made slot lo n (slot p) p c.0 c.1 refl;
   }
     where
       in_mid : (p : ℕ) → lo ≤ p → p < lo + n → has ps p ≡ true
@@ -114,7 +111,7 @@ module _ (m : List ℕ) (lo n : ℕ) (S : Stands m) (few : lo + n ≤ count m) (
   slots_are : (p : ℕ) → cell m' slots p ≡ exchanged slot ps ks p
   slots_are p =
       ap (λ (x : List ℕ). cell x slots p) (reseated_put m lo n)
-      ∙ put_slots m ps ks S.long (λ q h. let c = in_counting lo n q h in omega (arith, few, room)) p
+      ∙ put_slots m ps ks S.long (λ q h. let c = counting_has lo n q h in omega (arith, few, room)) p
 
   places_are : (s : ℕ) → cell m' places s ≡ exchanged (cell m places) ks ps s
   places_are s = ap (λ (x : List ℕ). cell x places s) (reseated_put m lo n) ∙ put_places m ps ks S.long slot_below s

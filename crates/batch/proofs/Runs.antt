@@ -1,5 +1,5 @@
 -- Runs on the engine of this crate: after its first answer a saying goes on as on the keeper's.
-use Rattle.std.proofs.Common.{◌≡◌, ℕ, zero, suc, true, leb, List, [], ◌∷◌, length, refl, ap, ◌∙◌, inl, inr, arith}
+use Rattle.std.proofs.Common.{Ok, ◌≡◌, ℕ, zero, suc, true, leb, List, [], ◌∷◌, length, refl, ap, ◌∙◌, inl, inr, arith}
 use Rattle.std.proofs.lemmas.List.{take_all}
 use Rattle.std.proofs.lemmas.Bool.{cases_Bool, eq-eqb}
 use Rattle.row.specs.declared.board.Command.{Command}
@@ -72,7 +72,7 @@ unfolding when_idle
 idle_first m s a i sm e = run_first m s a sm (e ∙ rw (eq-eqb (pending m) 0 i) refl)
 
 -- done, refused, or shown as going round
-pub first_done : (m : List ℕ) → from_first (quiet (ends Done m)) ≡ ran m [] [] 0
+pub first_done : (m : List ℕ) → from_first (quiet (ends (Ok Done) m)) ≡ ran m [] [] 0
 unfolding one_act
 first_done m = refl
 
@@ -84,7 +84,7 @@ first_refused m Cycle = refl
 first_refused m Full = refl
 
 pub first_round : (m : List ℕ) (R : Ready m) (ks : List ℕ) →
-    from_first (record { act = Shows (length ks); memory = leaves_pending m 2; numbers = ks })
+    from_first (record { act = Ok (Shows (length ks)); memory = leaves_pending m 2; numbers = ks })
     ≡ ran (leaves_pending (leaves_pending m 2) 0) [] (ks ∷ []) (number Cycle)
 unfolding one_act
 first_round m R ks =

@@ -1,5 +1,5 @@
 -- Several links said at once keep the size of the memory, whatever stands there, and what is answered fits what carries it.
-use Rattle.std.proofs.Common.{◌≡◌, ℕ, ◌+◌, ◌-◌, ◌<◌, ◌≤◌, min, true, eqb, ltb, leb, List, [], ◌∷◌, length, take, Some, None, Option, arith}
+use Rattle.std.proofs.Common.{Ok, ◌≡◌, ℕ, ◌+◌, ◌-◌, ◌<◌, ◌≤◌, min, true, eqb, ltb, leb, List, [], ◌∷◌, length, take, Some, None, Option, arith}
 use lib.ListN.{length-map}
 use Rattle.std.proofs.lemmas.Bool.{and_parts, ltb-true, cond_both}
 use Rattle.row.specs.declared.board.Command.TheVariants.{Link as Links}
@@ -20,11 +20,15 @@ use Rattle.keeper.specs.Linking.{slots_found}
 use Rattle.keeper.specs.Reordering.{round_cards}
 use Rattle.keeper.proofs.Size.{small_map, small_cell, size_same, size_then, size_written, given_holds}
 use Rattle.keeper.proofs.OwnSize.{BothBelow, size_inserted, size_removed, size_meeting, size_forgotten, size_settled, size_pending, Sized, sized_done, sized_refuses, sized_then, sized_cond, sized_shows, small_one, both_found, Any, sized_on}
-use Rattle.batch.specs.declared.checking.Span.{Span}
+use Rattle.batch.specs.declared.seating.Span.{Span}
 use Rattle.batch.specs.Checking.{all_found, repeated, wider, widened, spanned, moving, no_span, span}
 use Rattle.batch.specs.Joining.{Joined, joined_slots, joined, Tried, tried, dropped, taken_out}
-use Rattle.batch.specs.Saying.{noting, undone, brought, by_trial, rearranged, said_several}
-use Rattle.batch.specs.Seating.{saved}
+use Rattle.batch.specs.Saying.{noting, told_span, part_aside, undone, brought, by_trial, rearranged, said_several}
+use Rattle.batch.specs.Seating.{reseated}
+use Rattle.row.specs.Lookup.{given}
+use Rattle.keeper.specs.Answers.{quiet, ends}
+use Rattle.keeper.specs.declared.event.Act.TheVariants.{Done}
+use Rattle.batch.specs.declared.checking.Named.{Named}
 use Rattle.batch.proofs.Saving.{saves_only}
 use Rattle.batch.proofs.Reseating.{reseats_only}
 
@@ -94,44 +98,64 @@ record Bounded (s : Span) : Type 0 where
   low : s.low ≤ 8192
   high : s.high < 18446744073709551616
 
-bounded_none : Bounded no_span
-bounded_none = record { low = omega arith; high = omega arith }
+abbrev BoundedNamed : Named → Type 0
+BoundedNamed s = Bounded s.span
 
-bounded_wider : (m : List ℕ) (l : Link) (s : Span) → Bounded s → Bounded (wider m l s)
+bounded_wider : (m : List ℕ) (l : Link) (s : Named) → Bounded s.span → Bounded (wider m l s).span
 unfolding wider widened
-bounded_wider m l s b = given_holds Any Bounded (slots_found m l) _ _ tt b (λ x _. record { low = omega arith; high = omega arith })
+bounded_wider m l s b = given_holds Any BoundedNamed (slots_found m l) _ _ tt b (λ x _. record { low = omega arith; high = omega arith })
 
-bounded_spanned : (m : List ℕ) (ls : List Link) (s : Span) → Bounded s → Bounded (spanned m ls s)
+bounded_spanned : (m : List ℕ) (ls : List Link) (s : Named) → Bounded s.span → Bounded (spanned m ls s).span
 unfolding spanned
 bounded_spanned m [] s b = b
 bounded_spanned m (l ∷ ls) s b = bounded_spanned m ls (wider m l s) (bounded_wider m l s b)
 
-bounded_span : (m : List ℕ) (ls : List Link) → Bounded (span m ls)
+-- it, if there is one
+abbrev BoundedPart : Option Span → Type 0
+BoundedPart None = Unit {0}
+BoundedPart (Some s) = Bounded s
+
+bounded_span : (m : List ℕ) (ls : List Link) → BoundedPart (span m ls)
 unfolding moving
 bounded_span m ls =
     let s = spanned m ls no_span in
-    cond_both s.back s no_span Bounded (λ _. bounded_spanned m ls no_span bounded_none) (λ _. bounded_none)
+    cond_both s.back (Some s.span) None BoundedPart
+    (λ _. bounded_spanned m ls no_span (record { low = omega arith; high = omega arith })) (λ _. tt)
 
 module _ (m : List ℕ) (s : Span) (b : Bounded s) where
   size_noting : KeepsSize m (noting m s)
   unfolding noting
   size_noting = size_written m _ tally 6 s.high (λ _. b.high) (size_written m _ tally 5 s.low (λ _. omega arith) (size_pending m m 3 (omega arith) (size_same m)))
 
-  size_undone : (ls : List Link) → KeepsSize m (undone m ls s)
-  unfolding undone
-  size_undone ls =
+  sized_told_span : Sized m (told_span m s)
+  sized_told_span = sized_then m (noting m s) size_noting _ (sized_on (noting m s))
+
+  size_reseated : (ls : List Link) → KeepsSize m (reseated (min s.high 8192 - s.low) (taken_out m ls) s.low)
+  size_reseated ls =
       let n = taken_out m ls in
       size_then m n _ (size_taken_out m ls) (reseats_only n s.low (min s.high 8192 - s.low) (omega arith)).1
 
-  sized_brought : (ls : List Link) → Sized m (brought m ls s)
-  unfolding brought
-  sized_brought ls =
-      sized_cond m (leb (live m) 65536) _ _
-      (sized_cond m s.back _ _ (sized_then m (noting m s) size_noting _ (sized_on (noting m s))) (sized_done m m (size_same m)))
-      (sized_refuses m (undone m ls s) (size_undone ls) Full)
+size_undone : (m : List ℕ) (o : Option Span) (b : BoundedPart o) (ls : List Link) → KeepsSize m (undone m ls o)
+unfolding undone
+size_undone m None b ls = size_taken_out m ls
+size_undone m (Some s) b ls = size_reseated m s b ls
+
+sized_part : (m : List ℕ) (o : Option Span) (b : BoundedPart o) → Sized m (given o (quiet (ends (Ok Done) m)) (λ s. told_span m s))
+sized_part m None b = sized_done m m (size_same m)
+sized_part m (Some s) b = sized_told_span m s b
+
+sized_brought : (m : List ℕ) (o : Option Span) (b : BoundedPart o) (ls : List Link) → Sized m (brought m ls o)
+unfolding brought
+sized_brought m o b ls =
+    sized_cond m (leb (live m) 65536) _ _ (sized_part m o b) (sized_refuses m (undone m ls o) (size_undone m o b ls) Full)
+
+size_aside : (m : List ℕ) (o : Option Span) → KeepsSize m (part_aside m o)
+unfolding part_aside
+size_aside m None = size_same m
+size_aside m (Some s) = (saves_only m s.low (min s.high 8192 - s.low)).1
 
 module _ (m : List ℕ) (ls : List Link) (h : every (λ l. small_command (Links l)) ls ≡ true) where
-  sized_trial : (s : Span) (t : Tried) → Bounded s → TriedFits m t → Sized m (by_trial t ls s)
+  sized_trial : (s : Option Span) (t : Tried) → BoundedPart s → TriedFits m t → Sized m (by_trial t ls s)
   unfolding by_trial
   sized_trial s t b f =
       let n = t.memory in
@@ -139,12 +163,11 @@ module _ (m : List ℕ) (ls : List Link) (h : every (λ l. small_command (Links 
       let js = take t.count ls in
       sized_shows m _ (length ks) ks (size_pending m _ 2 (omega arith) (size_then m n _ f.0 (size_undone n s b js))) w.0 w.1)
 
-  sized_rearranged : (s : Span) → Bounded s → Sized m (rearranged m ls s)
+  sized_rearranged : (s : Option Span) → BoundedPart s → Sized m (rearranged m ls s)
   unfolding rearranged
   sized_rearranged s b =
-      let k = min s.high 8192 - s.low in
-      let n = saved k m s.low in
-      let z = (saves_only m s.low k).1 in
+      let n = part_aside m s in
+      let z = size_aside m s in
       let t = tried_fits n ls 0 h in
       sized_trial s (tried n ls 0) b (size_then m n _ z t.0, way_then m n (tried n ls 0).way z t.1)
 

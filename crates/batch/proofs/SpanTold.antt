@@ -20,7 +20,7 @@ use Rattle.keeper.proofs.Carrying.{Noted, noted, noted_on}
 use Rattle.keeper.proofs.Noting.{noted_ready, settles, is_pending}
 use Rattle.keeper.proofs.Parts.{Anew}
 use Rattle.keeper.proofs.ToldRuns.{from_first, told_run, went_more}
-use Rattle.batch.specs.declared.checking.Span.{Span}
+use Rattle.batch.specs.declared.seating.Span.{Span}
 use Rattle.batch.specs.Saying.{noting, told_span}
 
 -- the part from lo up to hi is told, and takes the place of what stood there

@@ -1,5 +1,5 @@
 -- What is spanned by links between cards that are there is the part of the row that they name; if none goes backward, the row keeps them.
-use Rattle.std.proofs.Common.{◌≡◌, ℕ, ◌<◌, ◌≤◌, min, max, Bool, true, not, ◌&&◌, ◌||◌, ltb, leb, List, [], ◌∷◌, ◌++◌, length, sym, refl, ap, ◌∙◌, subst, inl, inr, arith}
+use Rattle.std.proofs.Common.{◌≡◌, ℕ, ◌<◌, ◌≤◌, min, max, Bool, true, not, ◌&&◌, ◌||◌, ltb, leb, List, [], ◌∷◌, ◌++◌, length, sym, refl, ap, ◌∙◌, subst, inl, inr, arith, is_some, Some}
 use Rattle.std.proofs.lemmas.Bool.Decides.{nat_tests}
 use Rattle.std.proofs.lemmas.Bool.{cases_Bool, both_ways}
 use Rattle.row.specs.declared.board.Link.{Link}
@@ -12,13 +12,13 @@ use Rattle.row.proofs.Present.{length_cards}
 use Rattle.search.specs.Meaning.{Ready}
 use Rattle.keeper.specs.Meaning.{card_board}
 use Rattle.keeper.proofs.Knowing.{row_is, fine_cards}
-use Rattle.batch.specs.declared.checking.Span.{Span}
+use Rattle.batch.specs.declared.seating.Span.{Span}
+use Rattle.batch.specs.declared.checking.Named.{Named}
 use Rattle.batch.specs.Several.{all_there, first_named, past_named}
 use Rattle.batch.specs.Checking.{widened, spanned, no_span, moving}
 use Rattle.batch.specs.CheckLaws.{Names, Spans, SpanMoves}
 use Rattle.batch.proofs.GoingOn.{there_parts}
 use Rattle.batch.proofs.CardsThere.{wider_so}
-use Rattle.batch.proofs.Checks.{moving_back, moving_none}
 
 past_inside : (r : Board) (ls : List Link) → all_there r ls ≡ true → past_named r ls ≤ length r.row
 unfolding past_named
@@ -44,16 +44,16 @@ module _ (m : List ℕ) (R : Ready m) where
   few = let S = R.stands.stands in omega (arith, ap length (row_is m R), length_cards m R.stands, S.few, S.room)
 
   -- a span that is widened to the places of a link's two cards on the board
-  abbrev with_places : Link → Span → Span
+  abbrev with_places : Link → Named → Named
   with_places l s = widened s (place r.row l.from) (place r.row l.to)
 
   -- the span of links, if s is that of those before them
-  record Widens (ls : List Link) (s : Span) : Type 0 where
-    low : min (spanned m ls s).low (length r.row) ≡ min s.low (first_named r ls)
-    high : (spanned m ls s).high ≡ max s.high (past_named r ls)
+  record Widens (ls : List Link) (s : Named) : Type 0 where
+    low : min (spanned m ls s).span.low (length r.row) ≡ min s.span.low (first_named r ls)
+    high : (spanned m ls s).span.high ≡ max s.span.high (past_named r ls)
     back : (spanned m ls s).back ≡ (s.back || not (keeps r.row ls))
 
-  widens_by : (l : Link) (ls : List Link) (s : Span) → all_there r (l ∷ ls) ≡ true →
+  widens_by : (l : Link) (ls : List Link) (s : Named) → all_there r (l ∷ ls) ≡ true →
       Widens ls (with_places l s) → Widens (l ∷ ls) s
   unfolding spanned widened first_named past_named every
   widens_by l ls s t W =
@@ -64,10 +64,10 @@ module _ (m : List ℕ) (R : Ready m) where
       record {
         low = rw e (omega (arith, W.low, few));
         high = rw e (omega (arith, W.high, few));
-        back = ap (λ (x : Span). x.back) e ∙ W.back ∙ either_way s.back (keeps r.row ls) (place r.row l.from) (place r.row l.to);
+        back = ap (λ (x : Named). x.back) e ∙ W.back ∙ either_way s.back (keeps r.row ls) (place r.row l.from) (place r.row l.to);
       }
 
-  widens : (ls : List Link) (s : Span) → all_there r ls ≡ true → Widens ls s
+  widens : (ls : List Link) (s : Named) → all_there r ls ≡ true → Widens ls s
   unfolding spanned first_named past_named every
   widens [] s t = record { low = refl; high = omega arith; back = grind arith }
   widens (l ∷ ls) s t = widens_by l ls s t (widens ls (with_places l s) (there_parts r l ls t).2)
@@ -77,7 +77,7 @@ module _ (m : List ℕ) (R : Ready m) where
       (widens ls no_span t).back
       ∙ ap not (sym (every_append _ r.links ls ∙ ap (λ b. b && keeps r.row ls) (fine_parts r (fine_cards m R)).kept))
 
-  names_so : (ls : List Link) → all_there r ls ≡ true → (spanned m ls no_span).back ≡ true → Names r ls (spanned m ls no_span)
+  names_so : (ls : List Link) → all_there r ls ≡ true → (spanned m ls no_span).back ≡ true → Names r ls (spanned m ls no_span).span
   unfolding spanned
   names_so [] t z = absurd (both_ways _ refl z)
   names_so (l ∷ ls) t z =
@@ -90,22 +90,25 @@ module _ (m : List ℕ) (R : Ready m) where
 pub spans : Spans
 spans m r ls M t =
     let Claim : Board → Type 0 = λ (b : Board).
-    ((spanned m ls no_span).back ≡ not (keeps b.row (b.links ++ ls))) × ((spanned m ls no_span).back ≡ true → Names b ls (spanned m ls no_span)) in
+    ((spanned m ls no_span).back ≡ not (keeps b.row (b.links ++ ls))) × ((spanned m ls no_span).back ≡ true → Names b ls (spanned m ls no_span).span) in
     let u = rw M.is at t in
     subst Claim (sym M.is) (back_so m M.ready ls u, names_so m M.ready ls u)
 
-moving_same : (s : Span) → (moving s).back ≡ s.back
+moving_some : (s : Named) → is_some (moving s) ≡ s.back
 unfolding moving
-moving_same s = elim (cases_Bool s.back) [
-  | inl e ↦ rw e refl
-  | inr e ↦ rw e refl
+moving_some s = grind arith
+
+moving_back : (s : Named) (x : Span) → moving s ≡ Some x → (s.back ≡ true) × (s.span ≡ x)
+unfolding moving
+moving_back s x e = elim (cases_Bool s.back) [
+  | inl b ↦ let z = rw b at e in (b, cc)
+  | inr b ↦ let z = rw b at e in absurd (cc)
 ]
 
 pub span_moves : SpanMoves
 span_moves m r ls M t =
     let s = spanned m ls no_span in
     let S = spans m r ls M t in (
-      moving_same s ∙ S.0,
-      (λ z. moving_none s (sym (moving_same s) ∙ z)),
-      λ z. let e = sym (moving_same s) ∙ z in subst (Names r ls) (sym (moving_back s e)) (S.1 e),
+      moving_some s ∙ S.0,
+      λ x z. let b = moving_back s x z in subst (Names r ls) b.1 (S.1 b.0),
     )

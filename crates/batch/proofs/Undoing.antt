@@ -1,5 +1,5 @@
 -- Links that were tried are taken out again, and the row is seated as it was: the memory means the board that it meant before.
-use Rattle.std.proofs.Common.{◌≡◌, ℕ, zero, suc, ◌+◌, ◌-◌, ◌≤◌, min, Bool, true, List, [], ◌∷◌, ◌++◌, length, take, refl, ◌∙◌, arith}
+use Rattle.std.proofs.Common.{None, ◌≡◌, ℕ, zero, suc, ◌+◌, ◌-◌, ◌≤◌, min, Bool, true, List, [], ◌∷◌, ◌++◌, length, take, refl, ◌∙◌, arith, Some}
 use Rattle.std.proofs.lemmas.Bool.{and_parts, and_from}
 use Rattle.row.specs.declared.board.Link.{Link}
 use Rattle.row.specs.declared.board.Command.TheVariants.{Link as Links}
@@ -8,7 +8,7 @@ use Rattle.row.specs.Board.{Board}
 use Rattle.row.specs.Layout.{ids, chain}
 use Rattle.keeper.specs.Promise.{small_command}
 use Rattle.keeper.specs.Meaning.{Means}
-use Rattle.batch.specs.declared.checking.Span.{Span}
+use Rattle.batch.specs.declared.seating.Span.{Span}
 use Rattle.batch.specs.Layout.{spare}
 use Rattle.batch.specs.Several.{all_there, Becomes, first_named, past_named}
 use Rattle.batch.specs.Joining.{tried, taken_out}
@@ -24,6 +24,7 @@ use Rattle.batch.proofs.Beside.{beside_on}
 use Rattle.batch.proofs.TriedFrames.{Else, Spared, spared_tried, spared_taken_out}
 use Rattle.batch.proofs.TakingOut.{takes_out}
 use Rattle.batch.proofs.SeatedBack.{row_count, Aside, seated_back}
+use Rattle.batch.specs.Listing.{at_each}
 
 first_within : (r : Board) (ls : List Link) → first_named r ls ≤ length r.row
 unfolding first_named
@@ -74,7 +75,7 @@ module _ (m : List ℕ) (r : Board) (ls ks : List Link) (s : Span) (row : List �
             ∙ (saves m lo size (omega arith)).0 p l u (omega (arith, few, room));
       }
 
-  pub undone_so : Means m₂ (record { row = row; links = r.links ++ ks }) → Means (undone m₂ ks s) r
+  pub undone_so : Means m₂ (record { row = row; links = r.links ++ ks }) → Means (undone m₂ ks (Some s)) r
   unfolding undone
   undone_so M₂ =
       seated_back m m₃ r row lo size M (takes_out m₂ (record { row = row; links = r.links }) ks sm M₂) aside few ends
@@ -102,13 +103,16 @@ undoes m r ls n s row M sm t long C b =
 -- links that were all put in, and links of which one goes round
 module _ (m : List ℕ) (r : Board) (ls : List Link) (s : Span) (M : Means m r) (sm : every (λ l. small_command (Links l)) ls ≡ true)
     (t : all_there r ls ≡ true) (long : length m ≡ 524288) (C : Covers s r ls) where
-  pub undoes_all : AllIn (put_aside m s) r ls → Means (undone (tried (put_aside m s) ls 0).memory ls s) r
+  pub undoes_all : AllIn (put_aside m s) r ls → Means (undone (tried (put_aside m s) ls 0).memory ls (Some s)) r
   undoes_all A = undone_so m r ls ls s A.row M sm t long C A.becomes A.means
 
   pub undoes_stopped : Stopped (put_aside m s) r ls →
-      Means (undone (tried (put_aside m s) ls 0).memory (take (tried (put_aside m s) ls 0).count ls) s) r
+      Means (undone (tried (put_aside m s) ls 0).memory (take (tried (put_aside m s) ls 0).count ls) (Some s)) r
   undoes_stopped S = undoes m r ls (tried (put_aside m s) ls 0).count s S.row M sm t long C S.becomes S.means
 
 pub undoes_none : UndoesNone
-unfolding undone reseated
-undoes_none m r ls s sm e M = let z : min s.high 8192 - s.low ≡ 0 = omega arith in rw z (takes_out m r ls sm M)
+unfolding undone reseated at_each
+undoes_none m r ls None sm e M = takes_out m r ls sm M
+undoes_none m r ls (Some s) sm e M =
+    let h : s.high ≤ s.low = e s refl in
+    let z : min s.high 8192 - s.low ≡ 0 = omega arith in rw z (takes_out m r ls sm M)

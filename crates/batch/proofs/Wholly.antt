@@ -1,10 +1,9 @@
 -- THE THEOREM: the engine of this crate meets the promise, within three steps; and its answers fit.
-use Rattle.std.proofs.Common.{◌≡◌, ℕ, ◌≤◌, true, eqb, List, length, replicate, refl, ◌∙◌, inl, inr, arith}
+use Rattle.std.proofs.Common.{Err, ◌≡◌, ℕ, ◌≤◌, true, eqb, List, length, replicate, refl, ◌∙◌, inl, inr, arith}
 use lib.ListN.{length-replicate}
 use Rattle.std.proofs.lemmas.Bool.{cases_Bool}
 use Rattle.keeper.specs.declared.event.Event.TheVariants.{Said, Next}
 use Rattle.keeper.specs.declared.event.Reason.TheVariants.{Unfit}
-use Rattle.keeper.specs.declared.event.Act.TheVariants.{Refused as ActRefused}
 use Rattle.keeper.specs.Answers.{Answer, quiet, ends, pending}
 use Rattle.keeper.specs.Promise.{Steady as KeeperSteady}
 use Rattle.keeper.specs.Sized.{KeepsSize, fits, small_event}
@@ -26,7 +25,7 @@ use Rattle.batch.proofs.AnewKept.{anew_kept}
 use Rattle.batch.proofs.LinksKept.{several_links_kept}
 
 -- sizes
-sized_unfit : (m m₁ : List ℕ) → KeepsSize m m₁ → Sized m (quiet (ends (ActRefused Unfit) m₁))
+sized_unfit : (m m₁ : List ℕ) → KeepsSize m m₁ → Sized m (quiet (ends (Err Unfit) m₁))
 unfolding fits
 sized_unfit m m₁ b = (b, λ _. refl)
 

@@ -27,15 +27,15 @@ has_without xs k j h n = let e = has_filter (λ i. not (eqb i k)) xs j in grind 
 pub without_has : (xs : List ℕ) (k j : ℕ) → has (without xs k) j ≡ true → (has xs j ≡ true) × (j ≡ k → ⊥)
 without_has xs k j h = let e = has_filter (λ i. not (eqb i k)) xs j in (grind (arith, nat_tests), λ i. grind (arith, nat_tests))
 
-without_no_longer : (xs : List ℕ) (k : ℕ) → length (without xs k) ≤ length xs
+pub filter_no_longer : {A : Type 0} (f : A → Bool) (xs : List A) → length (filter f xs) ≤ length xs
 unfolding filter
-without_no_longer [] k = omega arith
-without_no_longer (x ∷ xs) k = let ih = without_no_longer xs k in grind (arith, nat_tests)
+filter_no_longer f [] = omega arith
+filter_no_longer f (x ∷ xs) = let ih = filter_no_longer f xs in grind (arith, nat_tests)
 
 pub without_shorter : (xs : List ℕ) (k : ℕ) → has xs k ≡ true → length (without xs k) < length xs
 unfolding any filter
 without_shorter [] k h = grind arith
-without_shorter (x ∷ xs) k h = let ih = without_shorter xs k in let n = without_no_longer xs k in grind (arith, nat_tests)
+without_shorter (x ∷ xs) k h = let ih = without_shorter xs k in let n = filter_no_longer (λ i. not (eqb i k)) xs in grind (arith, nat_tests)
 
 -- each number of xs is one of ys
 abbrev pub Within : List ℕ → List ℕ → Type 0

@@ -7,7 +7,7 @@
 --                             shown is the row by the rule; else it is a circle of the links
 --   MakesAnew                 with memory and output that fit, it ends so, whatever stood in the memory
 --   MakesUnfit                if they don't fit, it is refused, and nothing changes
-use Rattle.std.specs.Prelude.{◌≡◌, ℕ, ◌≤◌, true, false, cond, ◌&&◌, List, [], ◌∷◌, ◌++◌, length, drop, Some, None, Option, ◌≢◌, nat_le}
+use Rattle.std.specs.Prelude.{◌≡◌, ℕ, ◌≤◌, true, false, cond, ◌&&◌, List, [], ◌∷◌, ◌++◌, length, drop, Some, None, Ok, Err, Option, ◌≢◌, nat_le}
 use Rattle.row.specs.declared.board.Link.{Link}
 use Rattle.row.specs.declared.board.Refusal.{Refusal}
 use Rattle.row.specs.declared.board.Refusal.TheVariants.{Missing, Exists, Full}
@@ -15,7 +15,7 @@ use Rattle.row.specs.Lists.{every, has}
 use Rattle.row.specs.Lookup.{given}
 use Rattle.keeper.specs.declared.event.Reason.TheVariants.{Unfit, Board}
 use Rattle.keeper.specs.Own.{step_fits}
-use Rattle.batch.specs.declared.making_anew.Anew.TheVariants.{Row, Circle, Refused}
+use Rattle.batch.specs.declared.making_anew.Anew.TheVariants.{Row, Circle}
 use Rattle.batch.specs.Several.{circle}
 use Rattle.batch.specs.Rule.{anew}
 use Rattle.batch.specs.MakingAnew.{Made, made_anew}
@@ -35,12 +35,12 @@ unfoldable pub row_refusal : List ℕ → List Link → Option Refusal
 row_refusal row ls = given (cards_refusal [] row) (links_refusal row ls) (λ e. Some e)
 
 pub record Makes (row : List ℕ) (ls : List Link) (out : List ℕ) (x : Made) : Type 0 where
-  pub refused : (why : Refusal) → row_refusal row ls ≡ Some why → (x.answer ≡ Refused (Board why)) × (x.out ≡ out)
-  pub refused_just : (why : Refusal) → x.answer ≡ Refused (Board why) → row_refusal row ls ≡ Some why
+  pub refused : (why : Refusal) → row_refusal row ls ≡ Some why → (x.answer ≡ Err (Board why)) × (x.out ≡ out)
+  pub refused_just : (why : Refusal) → x.answer ≡ Err (Board why) → row_refusal row ls ≡ Some why
   pub done : row_refusal row ls ≡ None → length (anew ls row) ≡ length row →
-      (x.answer ≡ Row (length row)) × (x.out ≡ anew ls row ++ drop (length row) out)
+      (x.answer ≡ Ok (Row (length row))) × (x.out ≡ anew ls row ++ drop (length row) out)
   pub round : row_refusal row ls ≡ None → (length (anew ls row) ≢ length row) →
-      (way : List ℕ) × (x.answer ≡ Circle (length way)) × (x.out ≡ way ++ drop (length way) out)
+      (way : List ℕ) × (x.answer ≡ Ok (Circle (length way))) × (x.out ≡ way ++ drop (length way) out)
       × (circle (record { row = row; links = ls }) way ≡ true)
 
 abbrev pub MakesAnew : Type 0
@@ -50,4 +50,4 @@ MakesAnew =
 abbrev pub MakesUnfit : Type 0
 MakesUnfit =
     (m row : List ℕ) (ls : List Link) (out : List ℕ) → step_fits m out ≡ false →
-    made_anew m row ls out ≡ record { answer = Refused Unfit; memory = m; out = out }
+    made_anew m row ls out ≡ record { answer = Err Unfit; memory = m; out = out }

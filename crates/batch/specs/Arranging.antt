@@ -8,7 +8,7 @@
 --   looked_up n m      and their slots in that order, in the column `spare`
 --   arranged_by n m    the row of n cards put into the order of their numbers
 --   arranged m         the row put into the order of the cards' numbers
-use Rattle.std.specs.Prelude.{ℕ, zero, suc, ◌+◌, min, List}
+use Rattle.std.specs.Prelude.{ℕ, ◌+◌, min, List}
 use Rattle.row.specs.declared.column.Column.{Column}
 use Rattle.row.specs.Columns.{cell, written}
 use Rattle.row.specs.Layout.{ids, slots, count}
@@ -16,10 +16,10 @@ use Rattle.row.specs.Lookup.{given, found}
 use Rattle.batch.specs.Layout.{spare, numbers}
 use Rattle.batch.specs.Seating.{reseated}
 use Rattle.batch.specs.Sorting.{sorted_part}
+use Rattle.batch.specs.Listing.{at_each}
 
 unfoldable pub filled : (List ℕ → ℕ → ℕ) → Column → ℕ → List ℕ → ℕ → List ℕ
-filled v c zero m i = m
-filled v c (suc f) m i = filled v c f (written m c i (v m i)) (i + 1)
+filled v c f m i = at_each (λ m₁ j. written m₁ c j (v m₁ j)) f m i
 
 unfoldable pub card_at : List ℕ → ℕ → ℕ
 card_at m p = cell m ids (cell m slots p)

@@ -7,11 +7,11 @@
 --   Repeats        of links between cards that are there, one is repeated just if it was said before
 --   Spans          a link goes backward just if the row doesn't keep them all; then what is spanned is the part of the row that the links name
 --   SpanMoves      so of the part of the row that may change: none, or the one that the links name
-use Rattle.std.specs.Prelude.{◌≡◌, ℕ, ◌<◌, ◌≤◌, true, false, not, List, [], ◌++◌, length}
+use Rattle.std.specs.Prelude.{◌≡◌, ℕ, ◌<◌, ◌≤◌, true, not, List, [], ◌++◌, length, Some, is_some}
 use Rattle.row.specs.declared.board.Link.{Link}
 use Rattle.row.specs.Board.{Board, keeps}
 use Rattle.keeper.specs.Meaning.{Means}
-use Rattle.batch.specs.declared.checking.Span.{Span}
+use Rattle.batch.specs.declared.seating.Span.{Span}
 use Rattle.batch.specs.Several.{all_there, said_before, first_named, past_named}
 use Rattle.batch.specs.Checking.{all_found, repeated, spanned, no_span, span}
 
@@ -30,10 +30,9 @@ abbrev pub Spans : Type 0
 Spans =
     (m : List ℕ) (r : Board) (ls : List Link) → Means m r → all_there r ls ≡ true →
     ((spanned m ls no_span).back ≡ not (keeps r.row (r.links ++ ls)))
-    × ((spanned m ls no_span).back ≡ true → Names r ls (spanned m ls no_span))
+    × ((spanned m ls no_span).back ≡ true → Names r ls (spanned m ls no_span).span)
 
 abbrev pub SpanMoves : Type 0
 SpanMoves =
     (m : List ℕ) (r : Board) (ls : List Link) → Means m r → all_there r ls ≡ true →
-    ((span m ls).back ≡ not (keeps r.row (r.links ++ ls))) × ((span m ls).back ≡ false → span m ls ≡ no_span)
-    × ((span m ls).back ≡ true → Names r ls (span m ls))
+    (is_some (span m ls) ≡ not (keeps r.row (r.links ++ ls))) × ((s : Span) → span m ls ≡ Some s → Names r ls s)

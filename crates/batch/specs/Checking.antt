@@ -3,12 +3,13 @@
 --   all_found m ls        each card that a link names has a slot
 --   known m l             the table has the link
 --   repeated m ps ls      one of ls is in the table, or is one of ps or of those before it in ls
---   wider m l s           the span s, widened to the places of the link's two cards; it goes backward if the link does
+--   widened s a b         the span of links and whether one goes backward, widened to the places a and b of one more link's cards
+--   wider m l s           so to the places of the link's two cards
 --   spanned m ls s        so for each of the links
 --   no_span               the span of no links
---   moving s              the span, if a link goes backward there; else no place has to change
---   span m ls             the part of the row that may change for the links
-use Rattle.std.specs.Prelude.{ℕ, ◌+◌, min, max, Bool, false, cond, ◌||◌, List, [], ◌∷◌, ◌++◌, is_some, nat_le}
+--   moving s              the span, if a link goes backward there; None: no place has to change
+--   span m ls             the part of the row that may change for the links; None: none has to
+use Rattle.std.specs.Prelude.{ℕ, ◌+◌, min, max, Bool, false, cond, ◌||◌, List, [], ◌∷◌, ◌++◌, Some, None, Option, is_some, nat_le}
 use Rattle.row.specs.declared.board.Link.{Link}
 use Rattle.row.specs.Lists.{every, any}
 use Rattle.row.specs.Columns.{cell}
@@ -16,7 +17,8 @@ use Rattle.row.specs.Layout.{places}
 use Rattle.row.specs.Lookup.{given}
 use Rattle.links.specs.Entries.{joins, found as entry_found}
 use Rattle.keeper.specs.Linking.{slots_found}
-use Rattle.batch.specs.declared.checking.Span.{Span}
+use Rattle.batch.specs.declared.seating.Span.{Span}
+use Rattle.batch.specs.declared.checking.Named.{Named}
 
 abbrev pub all_found : List ℕ → List Link → Bool
 all_found m ls = every (λ l. is_some (slots_found m l)) ls
@@ -32,21 +34,22 @@ repeated m ps (l ∷ ls) = (known m l || any (joins l) ps) || repeated m (ps ++ 
 abbrev pub behind : ℕ → ℕ
 behind p = min (p + 1) 18446744073709551615
 
-unfoldable pub widened : Span → ℕ → ℕ → Span
-widened s a b = record { low = min s.low (min a b); high = max s.high (behind (max a b)); back = s.back || nat_le b a }
+unfoldable pub widened : Named → ℕ → ℕ → Named
+widened s a b =
+    record { span = record { low = min s.span.low (min a b); high = max s.span.high (behind (max a b)) }; back = s.back || nat_le b a }
 
-unfoldable pub wider : List ℕ → Link → Span → Span
+unfoldable pub wider : List ℕ → Link → Named → Named
 wider m l s = given (slots_found m l) s (λ x. widened s (cell m places x.from) (cell m places x.to))
 
-unfoldable pub spanned : List ℕ → List Link → Span → Span
+unfoldable pub spanned : List ℕ → List Link → Named → Named
 spanned m [] s = s
 spanned m (l ∷ ls) s = spanned m ls (wider m l s)
 
-abbrev pub no_span : Span
-no_span = record { low = 8192; high = 0; back = false }
+abbrev pub no_span : Named
+no_span = record { span = record { low = 8192; high = 0 }; back = false }
 
-unfoldable pub moving : Span → Span
-moving s = cond s.back s no_span
+unfoldable pub moving : Named → Option Span
+moving s = cond s.back (Some s.span) None
 
-abbrev pub span : List ℕ → List Link → Span
+abbrev pub span : List ℕ → List Link → Option Span
 span m ls = moving (spanned m ls no_span)

@@ -19,10 +19,10 @@ use Rattle.links.specs.Layout.{end, froms, tos}
 use Rattle.links.specs.Building.{blanked}
 use Rattle.search.specs.Way.{trail}
 use Rattle.batch.specs.Layout.{spare, leaves, numbers}
+use Rattle.batch.specs.Listing.{at_each}
 
 unfoldable pub flagged : ℕ → List ℕ → ℕ → List ℕ
-flagged zero m i = m
-flagged (suc f) m i = flagged f (written m leaves (cell m spare i) 1) (i + 1)
+flagged f m i = at_each (λ m₁ j. written m₁ leaves (cell m₁ spare j) 1) f m i
 
 unfoldable pub stays : List ℕ → ℕ → Bool
 stays m s = nat_lt s 8192 && cell m leaves s == 0
@@ -31,8 +31,7 @@ unfoldable pub noted : List ℕ → ℕ → List ℕ
 noted m l = cond (stays m (cell m froms l)) (written m numbers (cell m tos l) (cell m froms l)) m
 
 unfoldable pub noted_all : ℕ → List ℕ → ℕ → List ℕ
-noted_all zero m l = m
-noted_all (suc f) m l = noted_all f (noted m l) (l + 1)
+noted_all f m l = at_each noted f m l
 
 abbrev pub notes : List ℕ → List ℕ
 notes m = noted_all (min (end m) 67584) m 0

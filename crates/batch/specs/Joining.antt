@@ -9,7 +9,9 @@
 --   dropped m l       a link between cards taken out of the table
 --   taken_out m ls    so for each of the links
 --   way_count o       how many cards are shown of a way; way_cards o: which
-use Rattle.std.specs.Prelude.{ℕ, ◌+◌, cond, List, [], ◌∷◌, length, Some, None, Option, ◌==◌, nat_lt}
+--   round_of t        the link that would go round, if one would: how many were put in before it, and how many cards are shown of the way
+--   unless o          done, unless something stands in the way
+use Rattle.std.specs.Prelude.{ℕ, ◌+◌, cond, List, [], ◌∷◌, length, Some, None, Ok, Err, Option, Result, ◌==◌, nat_lt}
 use Rattle.row.specs.declared.board.Link.{Link}
 use Rattle.row.specs.Columns.{cell}
 use Rattle.row.specs.Layout.{places}
@@ -20,6 +22,7 @@ use Rattle.search.specs.Hunt.{meeting}
 use Rattle.search.specs.Settle.{forgotten, settled}
 use Rattle.keeper.specs.Linking.{slots_found}
 use Rattle.keeper.specs.Reordering.{round_cards}
+use Rattle.batch.specs.declared.joining.Round.{Round}
 
 pub record Joined : Type 0 where
   pub memory : List ℕ
@@ -64,3 +67,10 @@ way_count (Some ks) = Some (length ks)
 abbrev pub way_cards : Option (List ℕ) → List ℕ
 way_cards None = []
 way_cards (Some ks) = ks
+
+abbrev pub round_of : Tried → Option Round
+round_of t = given t.way None (λ ks. Some (record { count = t.count; shown = length ks }))
+
+abbrev pub unless : {X : Type 0} → Option X → Result (Unit {0}) X
+unless None = Ok tt
+unless (Some x) = Err x

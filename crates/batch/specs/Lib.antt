@@ -3,6 +3,7 @@ pub mod SeveralLaws
 pub mod Rule
 pub mod RuleLaws
 pub mod Layout
+pub mod Listing
 pub mod Joining
 pub mod JoinLaws
 pub mod CheckLaws

@@ -4,9 +4,8 @@
 --                      nothing is changed
 --   plays n m h out s  what is heard played to its end, in at most n steps; s numbers are shown so far
 --   played m h out     in at most three
-use Rattle.std.specs.Prelude.{ℕ, zero, suc, cond, List, Some}
+use Rattle.std.specs.Prelude.{ℕ, zero, suc, cond, List, Some, Err}
 use Rattle.keeper.specs.declared.event.Reason.TheVariants.{Unfit, Busy}
-use Rattle.keeper.specs.declared.event.Act.TheVariants.{Refused}
 use Rattle.keeper.specs.Own.{step_fits}
 use Rattle.keeper.specs.Playing.{fronted, Stepped, Ending, by_act}
 use Rattle.batch.specs.Engine.{Heard, next}
@@ -15,7 +14,7 @@ use Rattle.batch.specs.Own.{answer}
 unfoldable pub stepped : List ℕ → Heard → List ℕ → Stepped
 stepped m h out =
     cond (step_fits m out) (record { act = (answer m h).act; memory = (answer m h).memory; out = fronted (answer m h).numbers out })
-    (record { act = Refused Unfit; memory = m; out = out })
+    (record { act = Err Unfit; memory = m; out = out })
 
 unfoldable pub plays : ℕ → List ℕ → Heard → List ℕ → ℕ → Ending
 plays zero m h out s = record { answer = record { shown = s; refused = Some Busy }; memory = m; out = out }

@@ -32,6 +32,7 @@ use Rattle.links.specs.Building.{blanked, rebuilt}
 use Rattle.search.specs.Layout.{fore}
 use Rattle.search.specs.Marks.{added, removed, first_mark}
 use Rattle.batch.specs.Layout.{spare, awaits, leaves}
+use Rattle.batch.specs.Listing.{at_each}
 
 unfoldable pub raised : List ℕ → Column → ℕ → List ℕ
 raised m c s = written m c s (min (cell m c s + 1) 18446744073709551615)
@@ -40,15 +41,13 @@ unfoldable pub counted : List ℕ → ℕ → List ℕ
 counted m l = raised (raised m awaits (cell m tos l)) leaves (cell m froms l)
 
 unfoldable pub counted_all : ℕ → List ℕ → ℕ → List ℕ
-counted_all zero m l = m
-counted_all (suc f) m l = counted_all f (counted m l) (l + 1)
+counted_all f m l = at_each counted f m l
 
 unfoldable pub freed : List ℕ → ℕ → List ℕ
 freed m s = cond (cell m awaits s == 0) (added m fore (cell m places s)) m
 
 unfoldable pub freed_all : ℕ → List ℕ → ℕ → List ℕ
-freed_all zero m p = m
-freed_all (suc f) m p = freed_all f (freed m (cell m slots p)) (p + 1)
+freed_all f m p = at_each (λ m₁ q. freed m₁ (cell m₁ slots q)) f m p
 
 unfoldable pub cleared : List ℕ → List ℕ
 cleared m = blanked 8192 (blanked 8192 m awaits 0) leaves 0

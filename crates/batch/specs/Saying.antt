@@ -2,13 +2,14 @@
 --
 --   noting m s            the memory, with the part of the row that a span names still to be told
 --   told_span m s         the part of the row that a span names, told, at most 4,096 cards of it
---   undone m ls s         the links taken out again, and the part of the row seated as it was
---   brought m ls s        what comes of links that were all put in: done, the row told if it changed; or refused, since there are too many
---   closed m ls s ks      what comes of links of which the one behind ls would go round by the way ks
---   by_trial t ls s       one or the other, by how the links were tried
---   rearranged m ls s     the links tried, with the part of the row put aside
+--   part_aside m o        the memory with the part of the row that a span names put aside, if there is one
+--   undone m ls o         the links taken out again, and the part of the row seated as it was
+--   brought m ls o        what comes of links that were all put in: done, the row told if it changed; or refused, since there are too many
+--   closed m ls o ks      what comes of links of which the one behind ls would go round by the way ks
+--   by_trial t ls o       one or the other, by how the links were tried
+--   rearranged m ls o     the links tried, with the part of the row put aside
 --   said_several m ls     the links said at once, when nothing is pending
-use Rattle.std.specs.Prelude.{ℕ, ◌-◌, min, cond, List, [], length, take, nat_le}
+use Rattle.std.specs.Prelude.{ℕ, ◌-◌, min, cond, List, [], length, take, Ok, Option, nat_le}
 use Rattle.row.specs.declared.board.Link.{Link}
 use Rattle.row.specs.declared.board.Refusal.TheVariants.{Missing, Exists, Full}
 use Rattle.row.specs.Columns.{written}
@@ -18,7 +19,7 @@ use Rattle.links.specs.Layout.{live}
 use Rattle.keeper.specs.declared.event.Act.TheVariants.{Shows, Done}
 use Rattle.keeper.specs.Answers.{Answer, quiet, ends, refuses, leaves_pending}
 use Rattle.keeper.specs.Own.{went_on}
-use Rattle.batch.specs.declared.checking.Span.{Span}
+use Rattle.batch.specs.declared.seating.Span.{Span}
 use Rattle.batch.specs.Checking.{all_found, repeated, span}
 use Rattle.batch.specs.Joining.{Tried, tried, taken_out}
 use Rattle.batch.specs.Seating.{saved, reseated}
@@ -29,21 +30,24 @@ noting m s = written (written (leaves_pending m 3) tally 5 s.low) tally 6 s.high
 abbrev pub told_span : List ℕ → Span → Answer
 told_span m s = went_on (noting m s)
 
-unfoldable pub undone : List ℕ → List Link → Span → List ℕ
-undone m ls s = reseated (min s.high 8192 - s.low) (taken_out m ls) s.low
+unfoldable pub part_aside : List ℕ → Option Span → List ℕ
+part_aside m o = given o m (λ s. saved (min s.high 8192 - s.low) m s.low)
 
-unfoldable pub brought : List ℕ → List Link → Span → Answer
-brought m ls s =
-    cond (nat_le (live m) 65536) (cond s.back (told_span m s) (quiet (ends Done m))) (quiet (refuses (undone m ls s) Full))
+unfoldable pub undone : List ℕ → List Link → Option Span → List ℕ
+undone m ls o = given o (taken_out m ls) (λ s. reseated (min s.high 8192 - s.low) (taken_out m ls) s.low)
 
-abbrev pub closed : List ℕ → List Link → Span → List ℕ → Answer
-closed m ls s ks = record { act = Shows (length ks); memory = leaves_pending (undone m ls s) 2; numbers = ks }
+unfoldable pub brought : List ℕ → List Link → Option Span → Answer
+brought m ls o =
+    cond (nat_le (live m) 65536) (given o (quiet (ends (Ok Done) m)) (λ s. told_span m s)) (quiet (refuses (undone m ls o) Full))
 
-unfoldable pub by_trial : Tried → List Link → Span → Answer
-by_trial t ls s = given t.way (brought t.memory ls s) (closed t.memory (take t.count ls) s)
+abbrev pub closed : List ℕ → List Link → Option Span → List ℕ → Answer
+closed m ls o ks = record { act = Ok (Shows (length ks)); memory = leaves_pending (undone m ls o) 2; numbers = ks }
 
-unfoldable pub rearranged : List ℕ → List Link → Span → Answer
-rearranged m ls s = by_trial (tried (saved (min s.high 8192 - s.low) m s.low) ls 0) ls s
+unfoldable pub by_trial : Tried → List Link → Option Span → Answer
+by_trial t ls o = given t.way (brought t.memory ls o) (closed t.memory (take t.count ls) o)
+
+unfoldable pub rearranged : List ℕ → List Link → Option Span → Answer
+rearranged m ls o = by_trial (tried (part_aside m o) ls 0) ls o
 
 unfoldable pub said_several : List ℕ → List Link → Answer
 said_several m ls =

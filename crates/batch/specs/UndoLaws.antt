@@ -3,20 +3,21 @@
 --
 --   put_aside m s   the memory with the part of the row that a span names put aside
 --   Covers s r ls   this part has all cards that the links name, and lies in the row
+--   NoPart o        there is no span, or there is no place in it
 --
 --   SavesMeans      the row put aside is no part of what the memory means
 --   TakesOut        links that were put in last are taken out again: the memory means the board without them
 --   Undoes          after links were tried, those that were put in are taken out, and the row is seated as it was: the memory means the board that it
 --                   meant before
 --   UndoesNone      the same where the row stayed as it was, and no part of it was put aside
-use Rattle.std.specs.Prelude.{◌≡◌, ℕ, ◌-◌, ◌≤◌, min, true, List, ◌++◌, length, take}
+use Rattle.std.specs.Prelude.{◌≡◌, ℕ, ◌-◌, ◌≤◌, min, true, List, ◌++◌, length, take, Some, Option}
 use Rattle.row.specs.declared.board.Link.{Link}
 use Rattle.row.specs.declared.board.Command.TheVariants.{Link as Links}
 use Rattle.row.specs.Lists.{every}
 use Rattle.row.specs.Board.{Board}
 use Rattle.keeper.specs.Promise.{small_command}
 use Rattle.keeper.specs.Meaning.{Means}
-use Rattle.batch.specs.declared.checking.Span.{Span}
+use Rattle.batch.specs.declared.seating.Span.{Span}
 use Rattle.batch.specs.Several.{all_there, with_links, Becomes, first_named, past_named}
 use Rattle.batch.specs.Joining.{tried, taken_out}
 use Rattle.batch.specs.Seating.{saved}
@@ -43,9 +44,12 @@ Undoes =
     (m : List ℕ) (r : Board) (ls : List Link) (n : ℕ) (s : Span) (row : List ℕ) → Means m r → every (λ l. small_command (Links l)) ls ≡ true →
     all_there r ls ≡ true → length m ≡ 524288 → Covers s r ls → Becomes r (take n ls) row →
     Means (tried (put_aside m s) ls 0).memory (record { row = row; links = r.links ++ take n ls }) →
-    Means (undone (tried (put_aside m s) ls 0).memory (take n ls) s) r
+    Means (undone (tried (put_aside m s) ls 0).memory (take n ls) (Some s)) r
+
+abbrev pub NoPart : Option Span → Type 0
+NoPart o = (s : Span) → o ≡ Some s → s.high ≤ s.low
 
 abbrev pub UndoesNone : Type 0
 UndoesNone =
-    (m : List ℕ) (r : Board) (ls : List Link) (s : Span) → every (λ l. small_command (Links l)) ls ≡ true → s.high ≤ s.low → Means m (with_links r ls) →
-    Means (undone m ls s) r
+    (m : List ℕ) (r : Board) (ls : List Link) (o : Option Span) → every (λ l. small_command (Links l)) ls ≡ true → NoPart o → Means m (with_links r ls) →
+    Means (undone m ls o) r

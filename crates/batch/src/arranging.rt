@@ -1,54 +1,37 @@
 // The row put into the order of the cards' numbers, whatever the links are.
 ghost use Rattle.std.specs.Prelude.{◌≡◌};
-ghost use Rattle.batch.specs.Layout.{spare, numbers};
-ghost use Rattle.batch.specs.Arranging.{filled, card_at, slot_at, arranged};
+ghost use Rattle.batch.specs.Arranging.{card_at, slot_at, arranged};
 
 use crate::layout::{NUMBERS, SPARE};
-use crate::seating::reseat;
+use crate::listing::fill;
+use crate::seating::{Span, row_len};
 use crate::sorting::sort_part;
-use row::{CARDS, IDS, SLOTS, find};
+use row::{IDS, SLOTS, find};
 
 // The number of the card at a place.
+#[tactic(auto, unfolding(crate::specs::Arranging::card_at))]
 fn card_at(memory: &[u64], place: u64) -> u64
     ensures { result ≡ card_at memory.now place }
 {
     IDS.get(memory, SLOTS.get(memory, place))
 }
 
-// Writes the numbers of the first `n` cards down.
-fn list_numbers(memory: &mut [u64], n: u64)
-    ensures { memory.new ≡ filled card_at numbers n memory.old 0 }
-{
-    for place in 0..n {
-        let card = card_at(memory, place);
-        NUMBERS.set(memory, place, card);
-    }
-}
-
 // The slot of the card whose number stands at `i`.
+#[tactic(auto, unfolding(crate::specs::Arranging::slot_at))]
 fn slot_at(memory: &[u64], i: u64) -> u64
     ensures { result ≡ slot_at memory.now i }
 {
     find(memory, NUMBERS.get(memory, i)).unwrap_or(0)
 }
 
-// Puts the slots of the first `n` numbers aside.
-fn list_slots(memory: &mut [u64], n: u64)
-    ensures { memory.new ≡ filled slot_at spare n memory.old 0 }
-{
-    for i in 0..n {
-        let slot = slot_at(memory, i);
-        SPARE.set(memory, i, slot);
-    }
-}
-
 // Puts the row into the order of the cards' numbers.
+#[tactic(auto, unfolding(crate::specs::Arranging::arranged_by))]
 pub(crate) fn arrange(memory: &mut [u64])
     ensures { memory.new ≡ arranged memory.old }
 {
-    let n = row::len(memory).min(CARDS);
-    list_numbers(memory, n);
+    let n = row_len(memory);
+    fill(memory, NUMBERS, 0..n, card_at);
     sort_part(memory, NUMBERS.base as usize, (NUMBERS.base + n) as usize);
-    list_slots(memory, n);
-    reseat(memory, 0, n);
+    fill(memory, SPARE, 0..n, slot_at);
+    Span::first(n).reseat(memory);
 }

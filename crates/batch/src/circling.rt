@@ -3,21 +3,20 @@
 // Each card that hasn't come waits for one that hasn't come either. So one step back after the other, as many as there may be cards, leads to a card of a
 // circle, and from there on round it. Two columns serve anew: LEAVES has a 1 for each slot that has come, and NUMBERS has for a slot one that hasn't come
 // and is linked to it.
-ghost use Rattle.std.specs.Prelude.{◌≡◌, ◌≤◌, min, length};
+ghost use Rattle.std.specs.Prelude.{◌≡◌, length};
 ghost use Rattle.row.specs.Columns.{cell};
-ghost use Rattle.search.specs.Way.{trail, over};
+ghost use Rattle.search.specs.Way.{over};
 ghost use Rattle.batch.specs.Layout.{numbers};
 ghost use Rattle.batch.specs.Circling.{flagged, stays, noted, notes, traced, start, back, round};
 
-use crate::layout::{ENTRIES, LEAVES, NUMBERS, SPARE};
-use crate::renewing::blank;
-use links::{from_of, to_of};
-use row::{CARDS, IDS, SLOTS, TALLY};
-
-// In TALLY: how many entries of the table of links are in use.
-const END: u64 = 3;
+use crate::layout::{LEAVES, NUMBERS, SPARE};
+use crate::seating::row_len;
+use links::{END, ENTRIES, from_of, to_of};
+use row::{CARDS, SLOTS, TALLY};
+use search::show_trail;
 
 // Notes of the first n slots in SPARE that they have come.
+#[tactic(auto, using(crate::proofs::PlaceByPlace::turns), unfolding(crate::specs::Circling::flagged))]
 fn flag(memory: &mut [u64], n: u64)
     ensures { memory.new ≡ flagged n memory.old 0 }
 {
@@ -28,6 +27,7 @@ fn flag(memory: &mut [u64], n: u64)
 }
 
 // Whether the slot hasn't come.
+#[tactic(auto, unfolding(crate::specs::Circling::stays))]
 fn stays(memory: &[u64], slot: u64) -> bool
     ensures { result ≡ stays memory.now slot }
 {
@@ -35,6 +35,7 @@ fn stays(memory: &[u64], slot: u64) -> bool
 }
 
 // Notes for the slot that the link of an entry goes into the one that it comes out of, if that hasn't come.
+#[tactic(auto, unfolding(crate::specs::Circling::noted))]
 fn note(memory: &mut [u64], entry: u64)
     ensures { memory.new ≡ noted memory.old entry }
 {
@@ -46,6 +47,7 @@ fn note(memory: &mut [u64], entry: u64)
 }
 
 // So for each entry of the table.
+#[tactic(auto, using(crate::proofs::PlaceByPlace::turns), unfolding(crate::specs::Circling::noted_all))]
 fn note_all(memory: &mut [u64])
     ensures { memory.new ≡ notes memory.old }
 {
@@ -55,10 +57,11 @@ fn note_all(memory: &mut [u64])
 }
 
 // Notes all that, after n slots have come.
+#[tactic(auto, unfolding(crate::specs::Circling::traced, links::specs::Building::blanked))]
 fn trace(memory: &mut [u64], n: u64)
     ensures { memory.new ≡ traced memory.old n }
 {
-    blank(memory, LEAVES);
+    LEAVES.blank(memory, CARDS);
     flag(memory, n);
     note_all(memory);
 }
@@ -67,41 +70,17 @@ fn trace(memory: &mut [u64], n: u64)
 fn first_left(memory: &[u64]) -> u64
     ensures { result ≡ start memory.now }
 {
-    for place in 0..row::len(memory).min(CARDS) {
-        let slot = SLOTS.get(memory, place);
-        if stays(memory, slot) {
-            return slot;
-        }
-    }
-    0
+    (0..row_len(memory))
+        .map(|place| SLOTS.get(memory, place))
+        .find(|slot| stays(memory, *slot))
+        .unwrap_or(0)
 }
 
 // So many steps back from a slot that one is on a circle.
 fn go_back(memory: &[u64], first: u64) -> u64
     ensures { result ≡ back (cell memory.now numbers) 8192 first }
 {
-    let mut slot = first;
-    for _i in 0..CARDS {
-        slot = NUMBERS.get(memory, slot);
-    }
-    slot
-}
-
-// Writes the cards from that of `first` on, step by step back, up to that of `last`, to the front of `out`, no more than it has room for; says how many.
-fn follow(memory: &[u64], first: u64, last: u64, out: &mut [u64]) -> usize
-    ensures is { result ≡ length (trail (cell memory.now numbers) (length out.old) last first) }
-    ensures out { out.new ≡ over memory.now (trail (cell memory.now numbers) (length out.old) last first) result out.old }
-    ensures within { result ≤ length out.old }
-{
-    let mut slot = first;
-    for i in 0..out.len() {
-        out[i] = IDS.get(memory, slot);
-        if slot == last {
-            return i + 1;
-        }
-        slot = NUMBERS.get(memory, slot);
-    }
-    out.len()
+    (0..CARDS).fold(first, |slot, _| NUMBERS.get(memory, slot))
 }
 
 // Writes the cards of a circle to the front of `out`, each linked to the next, after n slots have come; says how many.
@@ -112,7 +91,7 @@ pub(crate) fn show_circle(memory: &mut [u64], n: u64, out: &mut [u64]) -> u64
 {
     trace(memory, n);
     let last = go_back(memory, first_left(memory));
-    let len = follow(memory, NUMBERS.get(memory, last), last, out);
-    out[0..len].reverse();
+    let len = show_trail(memory, NUMBERS, NUMBERS.get(memory, last), last, out);
+    out[..len].reverse();
     len as u64
 }

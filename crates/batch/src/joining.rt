@@ -1,93 +1,73 @@
 // Links are tried one after the other, and taken out again.
-ghost use Rattle.std.specs.Prelude.{◌≡◌, ◌≤◌, length};
+ghost use Rattle.std.specs.Prelude.{◌≡◌, ◌≤◌, length, IfErr};
 ghost use Rattle.keeper.specs.Playing.{fronted};
-ghost use Rattle.keeper.specs.Reordering.{round_cards};
-ghost use Rattle.search.specs.Settle.{forgotten};
-ghost use Rattle.batch.specs.Joining.{joined_slots, joined, tried, dropped, taken_out, way_count, way_cards};
+ghost use Rattle.batch.specs.Joining.{joined_slots, joined, tried, dropped, taken_out, unless, way_count, way_cards, round_of};
 
+use crate::layout::Output;
 use keeper::slots_of;
 use links::{insert, remove};
 use row::{Link, place_at};
-use search::{forget, meet, settle, show};
+use search::{meet, settle, show_and_forget};
 
-// How many links were put in, and how many cards at the front of the output are the way by which the next one would go round, if it would.
+// A link would go round: how many were put in before it, and how many cards at the front of the output are the way.
 #[derive(Clone, Copy)]
-pub(crate) struct Trial {
+pub(crate) struct Round {
     pub count: usize,
-    pub shown: Option<u64>,
-}
-
-// Shows the cards of the way by which the link would go round, after the searches met, and forgets the search.
-fn show_round(memory: &mut [u64], slots: Link, joint: Link, out: &mut [u64]) -> u64
-    requires { 8192 ≤ length out.old }
-    ensures is { result ≡ length (round_cards memory.old slots joint) }
-    ensures after { memory.new ≡ forgotten memory.old }
-    ensures out { out.new ≡ fronted (round_cards memory.old slots joint) out.old }
-{
-    let n = show(memory, slots, joint, out);
-    forget(memory);
-    n
+    pub shown: u64,
 }
 
 // Puts a link between slots in, with the row settled for it if it goes backward. If it would go round, says how many cards the way has, which is written
 // to the front of `out`.
-fn join_slots(memory: &mut [u64], slots: Link, out: &mut [u64]) -> Option<u64>
-    requires { 8192 ≤ length out.old }
-    ensures is { result ≡ way_count (joined_slots memory.old slots).way }
+#[tactic(auto, using(search::proofs::Joining::shown_is), unfolding(crate::specs::Joining::joined_slots, keeper::specs::Reordering::round_cards))]
+fn join_slots(memory: &mut [u64], slots: Link, out: &mut Output) -> Result<(), u64>
+    ensures is { result ≡ unless (way_count (joined_slots memory.old slots).way) }
     ensures after { memory.new ≡ (joined_slots memory.old slots).memory }
     ensures out { out.new ≡ fronted (way_cards (joined_slots memory.old slots).way) out.old }
 {
     if place_at(memory, slots.to) < place_at(memory, slots.from) {
         if let Some(joint) = meet(memory, slots) {
-            return Some(show_round(memory, slots, joint, out));
+            return Err(show_and_forget(memory, slots, joint, out));
         }
         settle(memory);
     }
     insert(memory, slots);
-    None
+    Ok(())
 }
 
 // The same for a link between cards. A card before itself goes round: it is the way alone.
-fn join(memory: &mut [u64], link: Link, out: &mut [u64]) -> Option<u64>
-    requires { 8192 ≤ length out.old }
-    ensures is { result ≡ way_count (joined memory.old link).way }
+#[tactic(auto, unfolding(crate::specs::Joining::joined))]
+fn join(memory: &mut [u64], link: Link, out: &mut Output) -> Result<(), u64>
+    ensures is { result ≡ unless (way_count (joined memory.old link).way) }
     ensures after { memory.new ≡ (joined memory.old link).memory }
     ensures out { out.new ≡ fronted (way_cards (joined memory.old link).way) out.old }
 {
     let Some(slots) = slots_of(memory, link) else {
-        return None;
+        return Ok(());
     };
     if slots.from == slots.to {
         out[0] = link.from;
-        return Some(1);
+        return Err(1);
     }
     join_slots(memory, slots, out)
 }
 
 // Tries the links one after the other, up to the first that goes round.
-pub(crate) fn join_all(memory: &mut [u64], batch: &[Link], out: &mut [u64]) -> Trial
-    requires { 8192 ≤ length out.old }
-    ensures within { result.count ≤ length batch.now }
-    ensures count { result.count ≡ (tried memory.old batch.now 0).count }
-    ensures shown { result.shown ≡ way_count (tried memory.old batch.now 0).way }
+pub(crate) fn join_all(memory: &mut [u64], batch: &[Link], out: &mut Output) -> Result<(), Round>
+    ensures is { result ≡ unless (round_of (tried memory.old batch.now 0)) }
+    ensures within { IfErr result (λ round. round.count ≤ length batch.now) }
     ensures after { memory.new ≡ (tried memory.old batch.now 0).memory }
     ensures out { out.new ≡ fronted (way_cards (tried memory.old batch.now 0).way) out.old }
 {
-    for i in 0..batch.len() {
-        if let Some(n) = join(memory, batch[i], out) {
-            return Trial {
-                count: i,
-                shown: Some(n),
-            };
+    for (count, link) in batch.iter().enumerate() {
+        if let Err(shown) = join(memory, *link, out) {
+            return Err(Round { count, shown });
         }
     }
-    Trial {
-        count: batch.len(),
-        shown: None,
-    }
+    Ok(())
 }
 
 // Takes a link between cards out of the table.
+#[tactic(auto, unfolding(crate::specs::Joining::dropped))]
 fn drop_link(memory: &mut [u64], link: Link)
     ensures { memory.new ≡ dropped memory.old link }
 {
@@ -97,10 +77,11 @@ fn drop_link(memory: &mut [u64], link: Link)
 }
 
 // Takes the links out of the table.
+#[tactic(auto, using(crate::proofs::Trying::takes))]
 pub(crate) fn take_out(memory: &mut [u64], batch: &[Link])
     ensures { memory.new ≡ taken_out memory.old batch.now }
 {
-    for i in 0..batch.len() {
-        drop_link(memory, batch[i]);
+    for link in batch {
+        drop_link(memory, *link);
     }
 }

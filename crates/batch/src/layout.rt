@@ -1,4 +1,5 @@
 // Where the columns of this crate lie in the lent memory, behind those of `search`.
+use keeper::{MEMORY, OUTPUT};
 use row::Column;
 
 // How many links may be said at once.
@@ -28,5 +29,7 @@ pub const NUMBERS: Column = Column {
     size: 8192,
 };
 
-// How many entries the table of links has.
-pub const ENTRIES: u64 = 67584;
+// The memory, and the front of the output, whose lengths are then known.
+pub type Memory = [u64; MEMORY];
+
+pub type Output = [u64; OUTPUT];

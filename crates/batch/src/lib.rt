@@ -9,6 +9,7 @@ mod circling;
 mod event;
 mod joining;
 mod layout;
+mod listing;
 mod loading;
 mod making_anew;
 mod memory_laws;

@@ -1,5 +1,5 @@
 // A row made anew by the rule, from any cards and links; or a circle of links, if they go round.
-ghost use Rattle.std.specs.Prelude.{◌≡◌, ◌≤◌, length};
+ghost use Rattle.std.specs.Prelude.{◌≡◌, ◌≤◌, length, Ok};
 ghost use Rattle.search.specs.Way.{over};
 ghost use Rattle.batch.specs.AnewLaws.{MakesAnew};
 ghost use Rattle.batch.specs.Renewing.{renewed};
@@ -13,15 +13,14 @@ use keeper::{MEMORY, OUTPUT, Reason};
 use row::{IDS, Link};
 
 // How a row is made anew: so many cards at the front of the output are the new row; or they are a circle, each linked to the next and the last to the
-// first; or it is refused.
-#[derive(Clone, Copy)]
+// first.
+#[derive(Clone, Copy, Debug, PartialEq, Eq)]
 pub enum Anew {
     Row(u64),
     Circle(u64),
-    Refused(Reason),
 }
 
-// Writes the cards of the first n slots in SPARE to the front of `out`.
+// Writes the cards of the first n slots in SPARE to the front of `out`. Tried as `(0..n).zip(out)`: a proof then knows nothing of what was written.
 fn show_row(memory: &[u64], n: u64, out: &mut [u64])
     requires { n ≤ length out.old }
     ensures { out.new ≡ over memory.now (new_row memory.now n) n out.old }
@@ -33,9 +32,10 @@ fn show_row(memory: &[u64], n: u64, out: &mut [u64])
 }
 
 // Makes the row of a memory anew, and shows it, or a circle.
+#[tactic(auto, unfolding(crate::specs::MakingAnew::ended))]
 fn finish(memory: &mut [u64], out: &mut [u64]) -> Anew
     requires { 8192 ≤ length out.old }
-    ensures answer { result ≡ (ended (renewed memory.old).memory (renewed memory.old).came out.old).answer }
+    ensures answer { (ended (renewed memory.old).memory (renewed memory.old).came out.old).answer ≡ Ok result }
     ensures after { memory.new ≡ (ended (renewed memory.old).memory (renewed memory.old).came out.old).memory }
     ensures out { out.new ≡ (ended (renewed memory.old).memory (renewed memory.old).came out.old).out }
 {
@@ -49,17 +49,20 @@ fn finish(memory: &mut [u64], out: &mut [u64]) -> Anew
 
 // Makes the row anew by the rule, with these links: the row by the rule is written to the front of `out`, or a circle, if the links go round. Whatever stood
 // in the memory is gone then.
-pub fn make_anew(memory: &mut [u64], row: &[u64], links: &[Link], out: &mut [u64]) -> Anew
+pub fn make_anew(
+    memory: &mut [u64],
+    row: &[u64],
+    links: &[Link],
+    out: &mut [u64],
+) -> Result<Anew, Reason>
     ensures answer { result ≡ (made_anew memory.old row.now links.now out.old).answer }
     ensures after { memory.new ≡ (made_anew memory.old row.now links.now out.old).memory }
     ensures out { out.new ≡ (made_anew memory.old row.now links.now out.old).out }
     ensures right { MakesAnew }
 {
     if memory.len() != MEMORY || out.len() < OUTPUT {
-        return Anew::Refused(Reason::Unfit);
+        return Err(Reason::Unfit);
     }
-    if let Some(refusal) = load(memory, row, links) {
-        return Anew::Refused(Reason::Board(refusal));
-    }
-    finish(memory, out)
+    load(memory, row, links)?;
+    Ok(finish(memory, out))
 }

@@ -2,38 +2,29 @@
 //
 // For each slot it is counted how many links come into it from slots that haven't come, and the places of those for which there are none are marked,
 // so that the first mark is next. Each link is followed once, when the card that it comes out of comes.
-ghost use Rattle.std.specs.Prelude.{◌≡◌, ◌-◌, ◌≤◌, min};
-ghost use Rattle.row.specs.Layout.{count};
-ghost use Rattle.links.specs.Layout.{live};
+ghost use Rattle.std.specs.Prelude.{◌≡◌, ◌≤◌};
 ghost use Rattle.links.specs.declared.chain.Chain.TheVariants.{Out};
 ghost use Rattle.links.specs.Chains.{met, stepped};
-ghost use Rattle.links.specs.Building.{blanked};
 ghost use Rattle.batch.specs.Renewing.{raised, counted, counts, freed, frees, cleared, prepared};
 ghost use Rattle.batch.specs.Renewing.{lessened, next_by, left_by, released, let_go, drawn, renewed};
 
-use crate::layout::{ENTRIES, LEAVES, SPARE, WAITS};
-use links::{Chain, Meeting, from_of, rebuild, step, to_of};
+use crate::layout::{LEAVES, SPARE, WAITS};
+use crate::seating::row_len;
+use links::{Chain, ENTRIES, Meeting, from_of, rebuild, step, to_of};
 use row::{CARDS, Column, PLACES, SLOTS};
 use search::FORE;
 
-// Sets a column of counts to 0.
-pub(crate) fn blank(memory: &mut [u64], counts: Column)
-    ensures { memory.new ≡ blanked 8192 memory.old counts 0 }
-{
-    for slot in 0..CARDS {
-        counts.set(memory, slot, 0);
-    }
-}
-
-// Sets both to 0.
+// Nothing is counted.
+#[tactic(auto, unfolding(crate::specs::Renewing::cleared, links::specs::Building::blanked))]
 fn clear(memory: &mut [u64])
     ensures { memory.new ≡ cleared memory.old }
 {
-    blank(memory, WAITS);
-    blank(memory, LEAVES);
+    WAITS.blank(memory, CARDS);
+    LEAVES.blank(memory, CARDS);
 }
 
 // Counts one more for a slot.
+#[tactic(auto, unfolding(crate::specs::Renewing::raised))]
 fn raise(memory: &mut [u64], counts: Column, slot: u64)
     ensures { memory.new ≡ raised memory.old counts slot }
 {
@@ -42,6 +33,7 @@ fn raise(memory: &mut [u64], counts: Column, slot: u64)
 }
 
 // Counts the link of an entry, at both its ends.
+#[tactic(auto, unfolding(crate::specs::Renewing::counted))]
 fn count(memory: &mut [u64], entry: u64)
     ensures { memory.new ≡ counted memory.old entry }
 {
@@ -52,6 +44,7 @@ fn count(memory: &mut [u64], entry: u64)
 }
 
 // Counts the links of a table that has no dead entry.
+#[tactic(auto, using(crate::proofs::PlaceByPlace::turns), unfolding(crate::specs::Renewing::counted_all))]
 fn count_all(memory: &mut [u64])
     ensures { memory.new ≡ counts memory.old }
 {
@@ -61,6 +54,7 @@ fn count_all(memory: &mut [u64])
 }
 
 // Marks the place of a slot, if it waits for none.
+#[tactic(auto, unfolding(crate::specs::Renewing::freed))]
 fn free(memory: &mut [u64], slot: u64)
     ensures { memory.new ≡ freed memory.old slot }
 {
@@ -71,16 +65,18 @@ fn free(memory: &mut [u64], slot: u64)
 }
 
 // Marks the places of all slots that wait for none.
+#[tactic(auto, using(crate::proofs::PlaceByPlace::turns), unfolding(crate::specs::Renewing::freed_all))]
 fn free_all(memory: &mut [u64])
     ensures { memory.new ≡ frees memory.old }
 {
-    for place in 0..row::len(memory).min(CARDS) {
+    for place in 0..row_len(memory) {
         let slot = SLOTS.get(memory, place);
         free(memory, slot);
     }
 }
 
 // Counts the links and marks what waits for none.
+#[tactic(auto, unfolding(crate::specs::Renewing::prepared))]
 fn prepare(memory: &mut [u64])
     ensures { memory.new ≡ prepared memory.old }
 {
@@ -91,6 +87,7 @@ fn prepare(memory: &mut [u64])
 }
 
 // The slot waits for one fewer.
+#[tactic(auto, unfolding(crate::specs::Renewing::lessened))]
 fn lessen(memory: &mut [u64], slot: u64)
     ensures { memory.new ≡ lessened memory.old slot }
 {
@@ -116,6 +113,7 @@ fn release_one(memory: &mut [u64], pointer: u64) -> Option<u64>
 }
 
 // Such a walk, of at most so many turns.
+#[tactic(auto, using(crate::proofs::RenewSteps::releasing))]
 fn release(memory: &mut [u64], slot: u64, turns: u64)
     ensures { memory.new ≡ released turns memory.old slot }
 {
@@ -129,6 +127,7 @@ fn release(memory: &mut [u64], slot: u64, turns: u64)
 }
 
 // The slot has come: the links out of it are followed, each once, since then none is counted any more.
+#[tactic(auto, unfolding(crate::specs::Renewing::let_go))]
 fn let_go(memory: &mut [u64], slot: u64)
     ensures { memory.new ≡ let_go memory.old slot }
 {
@@ -138,6 +137,7 @@ fn let_go(memory: &mut [u64], slot: u64)
 }
 
 // The slot at the place comes, after `i` others.
+#[tactic(auto, unfolding(crate::specs::Renewing::drawn))]
 fn draw(memory: &mut [u64], place: u64, i: u64)
     ensures { memory.new ≡ drawn memory.old place i }
 {
@@ -148,13 +148,14 @@ fn draw(memory: &mut [u64], place: u64, i: u64)
 }
 
 // Makes the row anew by the rule: writes the slots to SPARE in the order in which they come, and says how many come; all, unless links go round.
+#[tactic(auto, using(crate::proofs::RenewSteps::renews), unfolding(crate::specs::Renewing::renewed))]
 pub(crate) fn renew(memory: &mut [u64]) -> u64
     ensures is { result ≡ (renewed memory.old).came }
     ensures below { result ≤ 8192 }
     ensures after { memory.new ≡ (renewed memory.old).memory }
 {
     prepare(memory);
-    let n = row::len(memory).min(CARDS);
+    let n = row_len(memory);
     for i in 0..n {
         let Some(place) = FORE.first(memory) else {
             return i;

@@ -1,114 +1,125 @@
 // Several links are said at once, or the row is made anew.
-ghost use Rattle.std.specs.Prelude.{◌≡◌, ◌≤◌, length};
-ghost use Rattle.keeper.specs.Playing.{fronted};
+ghost use Rattle.std.specs.Prelude.{◌≡◌};
+ghost use Rattle.keeper.specs.Answers.{Gives};
 ghost use Rattle.batch.specs.Own.{said_anew};
-ghost use Rattle.batch.specs.Saying.{noting, told_span, undone, brought, rearranged, said_several};
+ghost use Rattle.batch.specs.Saying.{told_span, part_aside, undone, brought, rearranged, said_several};
 
-use crate::checking::{Span, all_there, repeats, span_of};
+use crate::checking::{all_there, repeats, span_of};
 use crate::joining::{join_all, take_out};
-use crate::layout::BATCH;
-use crate::seating::{reseat, save};
+use crate::layout::{BATCH, Memory, Output};
+use crate::seating::Span;
 use crate::tidying::tidy;
-use keeper::{Act, Event, LINKS, MORE, MORE_FROM, MORE_TO, PENDING, ROUND, Reason, step};
-use row::{Link, Refusal, TALLY};
-
-// Notes that the part of the row is still to be told.
-fn note(memory: &mut [u64], span: Span)
-    ensures { memory.new ≡ noting memory.old span }
-{
-    TALLY.set(memory, PENDING, MORE);
-    TALLY.set(memory, MORE_FROM, span.low);
-    TALLY.set(memory, MORE_TO, span.high);
-}
+use keeper::{Act, LINKS, Pending, Reason};
+use row::{Link, Refusal};
 
 // Tells the part of the row.
-fn tell_span(memory: &mut [u64], span: Span, out: &mut [u64]) -> Act
-    requires { (length memory.old ≡ 524288) × (8192 ≤ length out.old) }
-    ensures act { result ≡ (told_span memory.old span).act }
-    ensures after { memory.new ≡ (told_span memory.old span).memory }
-    ensures out { out.new ≡ fronted (told_span memory.old span).numbers out.old }
+#[tactic(auto, using(crate::proofs::SayingSteps::given_by), unfolding(keeper::specs::Own::answer, crate::specs::Saying::noting))]
+fn tell_span(memory: &mut Memory, span: Span, out: &mut Output) -> Result<Act, Reason>
+    ensures { Gives (told_span memory.old span) out.old result memory.new out.new }
 {
-    note(memory, span);
-    step(memory, Event::Next, out)
-}
-
-// Takes the links out again, and seats the part of the row as it was.
-fn undo(memory: &mut [u64], batch: &[Link], span: Span)
-    ensures { memory.new ≡ undone memory.old batch.now span }
-{
-    take_out(memory, batch);
-    reseat(memory, span.low, span.high);
-}
-
-// All links are in: tells the part of the row that may have changed; but if there are too many, all is as it was.
-fn bring(memory: &mut [u64], batch: &[Link], span: Span, out: &mut [u64]) -> Act
-    requires { (length memory.old ≡ 524288) × (8192 ≤ length out.old) }
-    ensures act { result ≡ (brought memory.old batch.now span).act }
-    ensures after { memory.new ≡ (brought memory.old batch.now span).memory }
-    ensures out { out.new ≡ fronted (brought memory.old batch.now span).numbers out.old }
-{
-    if links::len(memory) > LINKS {
-        undo(memory, batch, span);
-        return Act::Refused(Reason::Board(Refusal::Full));
-    }
-    if !span.back {
-        return Act::Done;
-    }
-    tell_span(memory, span, out)
-}
-
-// Tries the links: the row is put right for all of them, or all is as it was.
-fn rearrange(memory: &mut [u64], batch: &[Link], span: Span, out: &mut [u64]) -> Act
-    requires { (length memory.old ≡ 524288) × (8192 ≤ length out.old) }
-    ensures act { result ≡ (rearranged memory.old batch.now span).act }
-    ensures after { memory.new ≡ (rearranged memory.old batch.now span).memory }
-    ensures out { out.new ≡ fronted (rearranged memory.old batch.now span).numbers out.old }
-{
-    save(memory, span.low, span.high);
-    let trial = join_all(memory, batch, out);
-    let Some(n) = trial.shown else {
-        return bring(memory, batch, span, out);
+    let more = Pending::More {
+        from: span.low,
+        to: span.high,
     };
-    let count = trial.count;
-    undo(memory, &batch[0..count], span);
-    TALLY.set(memory, PENDING, ROUND);
-    Act::Shows(n)
+    more.note(memory);
+    keeper::step(memory, keeper::Event::Next, out)
+}
+
+// Links that are said at once, and the part of the row that may change for them; none, if the row keeps them already.
+#[derive(Clone, Copy)]
+struct Saying<'a> {
+    links: &'a [Link],
+    span: Option<Span>,
+}
+
+impl<'a> Saying<'a> {
+    // Puts the part of the row aside.
+    #[tactic(auto, unfolding(crate::specs::Saying::part_aside))]
+    fn save(self, memory: &mut [u64])
+        ensures { memory.new ≡ part_aside memory.old self.entry.span }
+    {
+        if let Some(span) = self.span {
+            span.save(memory);
+        }
+    }
+
+    // Takes the links out again, and seats the part of the row as it was.
+    #[tactic(auto, unfolding(crate::specs::Saying::undone))]
+    fn undo(self, memory: &mut [u64])
+        ensures { memory.new ≡ undone memory.old self.entry.links.now self.entry.span }
+    {
+        take_out(memory, self.links);
+        if let Some(span) = self.span {
+            span.reseat(memory);
+        }
+    }
+
+    // All links are in: tells the part of the row that may have changed; but if there are too many, all is as it was.
+    #[tactic(auto, unfolding(crate::specs::Saying::brought))]
+    fn bring(self, memory: &mut Memory, out: &mut Output) -> Result<Act, Reason>
+        ensures { Gives (brought memory.old self.entry.links.now self.entry.span) out.old result memory.new out.new }
+    {
+        if links::len(memory) > LINKS {
+            self.undo(memory);
+            return Err(Refusal::Full.into());
+        }
+        let Some(span) = self.span else {
+            return Ok(Act::Done);
+        };
+        tell_span(memory, span, out)
+    }
+
+    // Tries the links: the row is put right for all of them, or all is as it was.
+    fn rearrange(self, memory: &mut Memory, out: &mut Output) -> Result<Act, Reason>
+        ensures { Gives (rearranged memory.old self.entry.links.now self.entry.span) out.old result memory.new out.new }
+    {
+        self.save(memory);
+        let Err(round) = join_all(memory, self.links, out) else {
+            return self.bring(memory, out);
+        };
+        let tried = Saying {
+            links: &self.links[..round.count],
+            span: self.span,
+        };
+        tried.undo(memory);
+        Pending::Round.note(memory);
+        Ok(Act::Shows(round.shown))
+    }
 }
 
 // Says the links at once.
-pub(crate) fn say_several(memory: &mut [u64], batch: &[Link], out: &mut [u64]) -> Act
-    requires { (length memory.old ≡ 524288) × (8192 ≤ length out.old) }
-    ensures act { result ≡ (said_several memory.old batch.now).act }
-    ensures after { memory.new ≡ (said_several memory.old batch.now).memory }
-    ensures out { out.new ≡ fronted (said_several memory.old batch.now).numbers out.old }
+#[tactic(auto, unfolding(crate::specs::Saying::said_several))]
+pub(crate) fn say_several(
+    memory: &mut Memory,
+    batch: &[Link],
+    out: &mut Output,
+) -> Result<Act, Reason>
+    ensures { Gives (said_several memory.old batch.now) out.old result memory.new out.new }
 {
     if batch.len() > BATCH {
-        return Act::Refused(Reason::Board(Refusal::Full));
+        return Err(Refusal::Full.into());
     }
     if !all_there(memory, batch) {
-        return Act::Refused(Reason::Board(Refusal::Missing));
+        return Err(Refusal::Missing.into());
     }
     if repeats(memory, batch) {
-        return Act::Refused(Reason::Board(Refusal::Exists));
+        return Err(Refusal::Exists.into());
     }
-    let span = span_of(memory, batch);
-    rearrange(memory, batch, span, out)
+    let saying = Saying {
+        links: batch,
+        span: span_of(memory, batch),
+    };
+    saying.rearrange(memory, out)
 }
 
 // Makes the row anew, from the order of the cards' numbers, and tells all of it. A memory whose links go round isn't a keeper's.
-pub(crate) fn say_anew(memory: &mut [u64], out: &mut [u64]) -> Act
-    requires { (length memory.old ≡ 524288) × (8192 ≤ length out.old) }
-    ensures act { result ≡ (said_anew memory.old).act }
-    ensures after { memory.new ≡ (said_anew memory.old).memory }
-    ensures out { out.new ≡ fronted (said_anew memory.old).numbers out.old }
+#[tactic(auto, unfolding(crate::specs::Own::said_anew))]
+pub(crate) fn say_anew(memory: &mut Memory, out: &mut Output) -> Result<Act, Reason>
+    ensures { Gives (said_anew memory.old) out.old result memory.new out.new }
 {
     if !tidy(memory) {
-        return Act::Refused(Reason::Unfit);
+        return Err(Reason::Unfit);
     }
-    let all = Span {
-        low: 0,
-        high: row::len(memory),
-        back: true,
-    };
+    let all = Span::first(row::len(memory));
     tell_span(memory, all, out)
 }

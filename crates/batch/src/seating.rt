@@ -1,27 +1,55 @@
 // The row put aside, and seated again by what was put aside.
 ghost use Rattle.std.specs.Prelude.{◌≡◌, ◌-◌, min};
+ghost use Rattle.row.specs.Layout.{count};
 ghost use Rattle.batch.specs.Seating.{saved, reseated};
 
 use crate::layout::SPARE;
+use crate::listing::fill;
 use row::{CARDS, PLACES, SLOTS};
 
-// Puts the slots at the places from `low` on, below `high`, aside.
-pub(crate) fn save(memory: &mut [u64], low: u64, high: u64)
-    ensures { memory.new ≡ saved (min high 8192 - low) memory.old low }
+// How many cards the row has; no more than there may be, whatever stands in the memory.
+pub(crate) fn row_len(memory: &[u64]) -> u64
+    ensures { result ≡ min (count memory.now) 8192 }
 {
-    for place in low..high.min(CARDS) {
-        let slot = SLOTS.get(memory, place);
-        SPARE.set(memory, place, slot);
-    }
+    row::len(memory).min(CARDS)
 }
 
-// Gives the places from `low` on, below `high`, to the slots that were put aside for them.
-pub(crate) fn reseat(memory: &mut [u64], low: u64, high: u64)
-    ensures { memory.new ≡ reseated (min high 8192 - low) memory.old low }
-{
-    for place in low..high.min(CARDS) {
-        let slot = SPARE.get(memory, place);
-        SLOTS.set(memory, place, slot);
-        PLACES.set(memory, slot, place);
+// The places from `low` on, below `high`.
+#[derive(Clone, Copy)]
+pub(crate) struct Span {
+    pub low: u64,
+    pub high: u64,
+}
+
+impl Span {
+    // The first n places.
+    pub fn first(n: u64) -> Span
+        ensures { result ≡ record { low = 0; high = n } }
+    {
+        Span { low: 0, high: n }
+    }
+
+    // Puts the slots at the places aside.
+    pub fn save(self, memory: &mut [u64])
+        ensures { memory.new ≡ saved (min self.high 8192 - self.low) memory.old self.low }
+    {
+        fill(
+            memory,
+            SPARE,
+            self.low..self.high.min(CARDS),
+            |memory, place| SLOTS.get(memory, place),
+        );
+    }
+
+    // Gives the places to the slots that were put aside for them.
+    #[tactic(auto, using(crate::proofs::PlaceByPlace::turns), unfolding(crate::specs::Seating::reseated))]
+    pub fn reseat(self, memory: &mut [u64])
+        ensures { memory.new ≡ reseated (min self.high 8192 - self.low) memory.old self.low }
+    {
+        for place in self.low..self.high.min(CARDS) {
+            let slot = SPARE.get(memory, place);
+            SLOTS.set(memory, place, slot);
+            PLACES.set(memory, slot, place);
+        }
     }
 }

@@ -2,7 +2,8 @@
 ghost use Rattle.std.specs.Prelude.{◌≡◌};
 ghost use Rattle.batch.specs.Sorting.{sorted_part};
 
-// Puts the numbers from `low` on, below `high`, into their order; nothing where there are no such.
+// Puts the numbers from `low` on, below `high`, into their order; nothing where there are no such. Tried by `get_mut(low..high)`: a proof then knows nothing
+// of what the memory holds.
 pub(crate) fn sort_part(memory: &mut [u64], low: usize, high: usize)
     ensures { memory.new ≡ sorted_part memory.old low high }
 {

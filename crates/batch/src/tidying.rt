@@ -4,19 +4,19 @@ ghost use Rattle.batch.specs.Tidying.{tidied};
 
 use crate::arranging::arrange;
 use crate::renewing::renew;
-use crate::seating::reseat;
-use row::CARDS;
+use crate::seating::{Span, row_len};
 
 // Makes the row anew by the rule, from the order of the cards' numbers on, and says whether all cards came: they do unless links go round.
+#[tactic(auto, unfolding(crate::specs::Tidying::tidied))]
 pub(crate) fn tidy(memory: &mut [u64]) -> bool
     ensures is { result ≡ (tidied memory.old).all }
     ensures after { memory.new ≡ (tidied memory.old).memory }
 {
     arrange(memory);
     let n = renew(memory);
-    if n < row::len(memory).min(CARDS) {
+    if n < row_len(memory) {
         return false;
     }
-    reseat(memory, 0, n);
+    Span::first(n).reseat(memory);
     true
 }

@@ -1,15 +1,13 @@
-use Rattle.std.proofs.Common.{◌+◌, ◌-◌, sym, ap, ◌∙◌, arith}
+use Rattle.std.proofs.Common.{ℕ, refl, ◌∙◌, rules, tests}
+use Rattle.std.proofs.lemmas.Iterator.{YieldsList-from_range}
+use Rattle.std.proofs.lemmas.Iterator.Consumers.{fold_from_yields_List}
 use Rattle.row.specs.Columns.{cell}
 use Rattle.batch.specs.Layout.{numbers}
-use Rattle.batch.specs.Circling.{back}
-use Rattle.batch.proofs.CircleSteps.{back_go, back_end}
+use Rattle.batch.proofs.CircleSteps.{folds_back}
 use Rattle.batch.proofs.circling.go_back.Goals as goal
 
-pub loop-i-preserved : goal.loop-i-preserved
-loop-i-preserved c =
-    let l = c.loop-i in
-    let next = cell c.args.memory.now numbers in
-    ap (back next (8192 - (l._i + 1))) c.get-slot.ensures ∙ sym (back_go next 8192 l._i l.slot c.loop-i-test.true) ∙ l.invariant
-
 pub returns : goal.returns
-returns c = let l = c.loop-i in sym (back_end (cell c.args.memory.now numbers) 8192 l._i l.slot (omega arith)) ∙ l.invariant
+returns c =
+    let next = cell c.args.memory.now numbers in
+    fold_from_yields_List _ (λ (s x : ℕ). next s) _ _ c.fold.ensures.ran (YieldsList-from_range 0 8192 8192 refl refl) (λ a x b q k. search (rules, tests))
+    ∙ folds_back next 8192 0 c.args.first

@@ -2,5 +2,5 @@ use Rattle.std.proofs.Common.{◌≡◌, drop}
 use Rattle.batch.specs.Joining.{tried}
 use Rattle.batch.proofs.joining.join_all.Given as goal
 
-abbrev pub invariant-loop-i : goal.invariant-loop-i
-invariant-loop-i l = (tried l.memory (drop l.i l.batch) l.i ≡ tried l.initial.memory l.batch 0) × (l.out ≡ l.initial.out)
+abbrev pub invariant-loop-count : goal.invariant-loop-count
+invariant-loop-count l = (tried l.memory (drop l.count l.batch) l.count ≡ tried l.initial.memory l.batch 0) × (l.out ≡ l.initial.out)

@@ -1,5 +1,6 @@
-use Rattle.std.proofs.Common.{◌≡◌, false, sym, ap, ◌∙◌, arith}
+use Rattle.std.proofs.Common.{◌≡◌, false, Err, sym, ap, ◌∙◌, rules, arith}
 use Rattle.std.proofs.lemmas.Bool.Decides.{nat_tests}
+use Rattle.keeper.specs.declared.event.Reason.TheVariants.{Board}
 use Rattle.keeper.specs.Own.{step_fits}
 use Rattle.batch.specs.MakingAnew.{Made}
 use Rattle.batch.proofs.MakingSteps.{anew_unfit, anew_refused, anew_so}
@@ -13,22 +14,23 @@ returns-then-memory-ne-MEMORY c =
     let e = sym (anew_unfit a.memory.now a.row.now a.links.now a.out.now f) in
     record { answer = ap (λ (x : Made). x.answer) e; after = ap (λ (x : Made). x.memory) e; out = ap (λ (x : Made). x.out) e; right = makes_anew }
 
-pub returns-in-Some : goal.returns-in-Some
-returns-in-Some c =
+pub returns-in_err-load : goal.returns-in_err-load
+returns-in_err-load c =
     let a = c.args in
     let l = c.load.ensures in
-    let e = anew_refused a.memory.now a.row.now a.links.now a.out.now (omega arith) (omega arith) _ _
-    c.in-Some.refusal l.is c.in-Some.is l.after in
-    record { answer = ap (λ (x : Made). x.answer) e; after = ap (λ (x : Made). x.memory) e; out = ap (λ (x : Made). x.out) e; right = makes_anew }
+    let w = c.in_err-load.field-0.0 in
+    let z : c.from_residual.result ≡ Err (Board w) = search rules in
+    let e = anew_refused a.memory.now a.row.now a.links.now a.out.now (omega arith) (omega arith) _ _ w l.is c.in_err-load.was l.after in
+    record { answer = z ∙ ap (λ (x : Made). x.answer) e; after = ap (λ (x : Made). x.memory) e; out = ap (λ (x : Made). x.out) e; right = makes_anew }
 
 pub returns : goal.returns
 returns c =
     let a = c.args in
     let l = c.load.ensures in
     let f = c.finish.ensures in
-    let e = anew_so a.memory.now a.row.now a.links.now a.out.now (omega arith) (omega arith) _ _ l.is c.in_default.is l.after in
+    let e = anew_so a.memory.now a.row.now a.links.now a.out.now (omega arith) (omega arith) _ _ _ l.is c.in_ok-load.was l.after in
     record {
-      answer = f.answer ∙ ap (λ (x : Made). x.answer) e;
+      answer = sym f.answer ∙ ap (λ (x : Made). x.answer) e;
       after = f.after ∙ ap (λ (x : Made). x.memory) e;
       out = f.out ∙ ap (λ (x : Made). x.out) e;
       right = makes_anew;

@@ -1,49 +1,45 @@
-use Rattle.std.proofs.Common.{refl}
-use Rattle.keeper.specs.declared.event.Event.TheVariants.{Said as KeeperSaid, Next as KeeperNext}
-use Rattle.batch.specs.declared.event.Event.TheVariants.{Said, Several, Anew, Next}
-use Rattle.batch.specs.Engine.{one, said, next}
-use Rattle.batch.specs.Own.{answer}
-use Rattle.batch.proofs.Beginnings.{as_keeper, heard_so}
+use Rattle.std.proofs.Common.{ℕ, List, take, Err, sym, subst}
+use Rattle.keeper.specs.declared.event.Reason.TheVariants.{Unfit}
+use Rattle.keeper.specs.Answers.{Gives}
+use Rattle.keeper.proofs.Fitting.{other_size, short_out}
+use Rattle.batch.specs.Engine.{heard}
+use Rattle.batch.specs.Own.{answer, StepSays}
+use Rattle.batch.proofs.Beginnings.{took, untook}
 use Rattle.batch.proofs.Wholly.{own_fits, whole_in_own}
 use Rattle.batch.proofs.stepping.step.Goals as goal
 
-pub returns-in-Said : goal.returns-in-Said
-unfolding answer
-returns-in-Said c =
-    let m = c.args.memory.now in
-    let out = c.args.out.now in
-    let k = c.in-Said.command in
+pub returns-in_default : goal.returns-in_default
+returns-in_default c =
+    let a = c.args in
     record {
-      says = heard_so m c.args.event (Said k) c.args.batch.now out _ _ _ c.in-Said.is
-          (as_keeper m (said (one k)) out _ _ _ (KeeperSaid k) refl c.step.ensures.says);
+      says = untook a.memory.now (heard a.event a.batch.now) a.out.now (other_size a.memory.now a.out.now c.in_default.ensures.cases);
       whole = whole_in_own;
       fits = own_fits;
     }
 
-pub returns-in-Several : goal.returns-in-Several
-returns-in-Several c =
+pub returns-in_default-first_chunk_mut : goal.returns-in_default-first_chunk_mut
+returns-in_default-first_chunk_mut c =
+    let a = c.args in
+    let h = heard a.event a.batch.now in
     record {
-      says = heard_so c.args.memory.now c.args.event Several c.args.batch.now c.args.out.now _ _ _ c.in-Several.is c.begin_several.ensures;
+      says =
+          subst (λ (m : List ℕ). StepSays a.memory.now h a.out.now (Err Unfit) m a.out.now) (sym c.in-Some.ensures.cases.same)
+          (untook a.memory.now h a.out.now (short_out a.memory.now a.out.now c.in_default-first_chunk_mut.ensures.cases));
       whole = whole_in_own;
       fits = own_fits;
     }
 
-pub returns-in-Anew : goal.returns-in-Anew
-returns-in-Anew c =
+pub returns : goal.returns
+returns c =
+    let a = c.args in
+    let h = heard a.event a.batch.now in
+    let w = c.in-Some.ensures.cases in
+    let f = c.in-Some-first_chunk_mut.ensures.cases in
     record {
-      says = heard_so c.args.memory.now c.args.event Anew c.args.batch.now c.args.out.now _ _ _ c.in-Anew.is c.begin_anew.ensures;
-      whole = whole_in_own;
-      fits = own_fits;
-    }
-
-pub returns-in-Next : goal.returns-in-Next
-unfolding answer
-returns-in-Next c =
-    let m = c.args.memory.now in
-    let out = c.args.out.now in
-    record {
-      says = heard_so m c.args.event Next c.args.batch.now out _ _ _ c.in-Next.is
-          (as_keeper m next out _ _ _ KeeperNext refl c.step-in-Next.ensures.says);
+      says =
+          took a.memory.now h a.out.now _ _ _ w.long f.enough
+          (subst (λ (m : List ℕ). Gives (answer m h) (take 8192 a.out.now) c.hear.result c.hear.new.memory c.hear.new.out) w.same
+          (subst (λ (o : List ℕ). Gives (answer c.in-Some.memory.now h) o c.hear.result c.hear.new.memory c.hear.new.out) f.same c.hear.ensures));
       whole = whole_in_own;
       fits = own_fits;
     }

@@ -1,6 +1,0 @@
-use Rattle.std.proofs.Common.{◌≡◌, ◌-◌}
-use Rattle.batch.specs.Seating.{reseated}
-use Rattle.batch.proofs.seating.reseat.Given as goal
-
-abbrev pub invariant-loop-place : goal.invariant-loop-place
-invariant-loop-place l = reseated (l.place-end - l.place) l.memory l.place ≡ reseated (l.place-end - l.low) l.initial.memory l.low
