@@ -3,14 +3,18 @@
 
 mod sayings;
 
-use anyhow::{Context, bail};
+use anyhow::Context;
 use keeper::{MEMORY, OUTPUT, play, read_row};
+use program::Program;
 use row::Command;
-use sayings::{Front, first};
+use sayings::Sayings;
 use std::fmt::Write;
-use std::io::Read;
 use std::process::ExitCode;
-use std::{env, fs};
+
+const BOARD: Program = Program {
+    name: "board",
+    help: HELP,
+};
 
 const HELP: &str = "\
 usage: board FILE
@@ -97,19 +101,8 @@ impl Player {
 
 // Plays all sayings; an error names the saying by its number, counted from 1.
 fn play_all(rt: &HostRuntime, player: &mut Player, bytes: &[u8]) -> anyhow::Result<()> {
-    let mut at = 0;
-    for number in 1..=bytes.len() {
-        if at >= bytes.len() {
-            break;
-        }
-        match first(&bytes[at..]) {
-            Front::Saying(command, taken) => {
-                player.answer(command)?;
-                at = at.saturating_add(taken);
-            }
-            Front::Unknown(kind) => bail!("saying {number}: the byte {kind} says nothing"),
-            Front::Cut => bail!("saying {number}: the input ends inside it"),
-        }
+    for (number, saying) in (1..=usize::MAX).zip(Sayings::of(bytes)) {
+        player.answer(saying.context(format_args!("saying {number}"))?)?;
         if player.lines.len() > 65536 {
             player.print(rt)?;
         }
@@ -124,41 +117,6 @@ fn play_bytes(rt: &HostRuntime, bytes: &[u8]) -> anyhow::Result<()> {
     played
 }
 
-fn play_file(rt: &HostRuntime, path: &str) -> anyhow::Result<()> {
-    let bytes = fs::read(rt, path).context(path)?;
-    play_bytes(rt, bytes.as_slice())
-}
-
-fn play_input(rt: &HostRuntime) -> anyhow::Result<()> {
-    let mut bytes = Vec::new(rt.alloc());
-    let _n = rt.stdin().read_to_end(&mut bytes)?;
-    play_bytes(rt, bytes.as_slice())
-}
-
-fn argument(rt: &HostRuntime) -> anyhow::Result<Option<String>> {
-    let mut args = env::args(rt)?;
-    let _program = args.next();
-    let word = args.next();
-    if args.next().is_some() {
-        bail!("more than one file; see board --help");
-    }
-    Ok(word)
-}
-
-fn run(rt: &HostRuntime) -> anyhow::Result<()> {
-    let Some(word) = argument(rt)? else {
-        return play_input(rt);
-    };
-    if word.as_str() == "--help" {
-        return Ok(rt.print(HELP)?);
-    }
-    play_file(rt, word.as_str())
-}
-
 fn main(rt: HostRuntime) -> ExitCode {
-    let Err(e) = run(&rt) else {
-        return ExitCode::SUCCESS;
-    };
-    let _ = eprintln!(rt; "board: {e:#}");
-    ExitCode::FAILURE
+    BOARD.run(&rt, play_bytes)
 }

@@ -5,12 +5,16 @@ mod input;
 
 ghost use Rattle.row.specs.Kept.{Names};
 
-use anyhow::{Context, bail};
+use anyhow::{Context, ensure};
 use input::{Question, decode, split};
+use program::Program;
 use row::{Reply, kept};
-use std::io::Read;
 use std::process::ExitCode;
-use std::{env, fs};
+
+const VERIFY: Program = Program {
+    name: "verify",
+    help: HELP,
+};
 
 const HELP: &str = "\
 usage: verify FILE
@@ -53,54 +57,16 @@ fn print(rt: &HostRuntime, links: &[u64], reply: Reply) -> anyhow::Result<()>
 }
 
 fn answer(rt: &HostRuntime, bytes: &[u8]) -> anyhow::Result<()> {
-    if bytes.len() % 2 == 1 {
-        bail!("the input ends inside a number");
-    }
-    let mut numbers = vec![in rt.alloc(); 0u64; bytes.len() / 2]?;
-    decode(bytes, numbers.as_mut_slice());
-    let Some(Question { row, links }) = split(numbers.as_slice()) else {
-        bail!("the input ends before all its cards have come");
-    };
+    ensure!(bytes.len() % 2 == 0, "the input ends inside a number");
+    let numbers = decode(rt.alloc(), bytes)?;
+    let Question { row, links } = split(numbers.as_slice()).context(
+        "the input ends before all its cards have come",
+    )?;
     print(rt, links, kept(row, links))
 }
 
-fn answer_file(rt: &HostRuntime, path: &str) -> anyhow::Result<()> {
-    let bytes = fs::read(rt, path).context(path)?;
-    answer(rt, bytes.as_slice())
-}
-
-fn answer_input(rt: &HostRuntime) -> anyhow::Result<()> {
-    let mut bytes = Vec::new(rt.alloc());
-    let _n = rt.stdin().read_to_end(&mut bytes)?;
-    answer(rt, bytes.as_slice())
-}
-
-fn argument(rt: &HostRuntime) -> anyhow::Result<Option<String>> {
-    let mut args = env::args(rt)?;
-    let _program = args.next();
-    let word = args.next();
-    if args.next().is_some() {
-        bail!("more than one file; see verify --help");
-    }
-    Ok(word)
-}
-
-fn run(rt: &HostRuntime) -> anyhow::Result<()> {
-    let Some(word) = argument(rt)? else {
-        return answer_input(rt);
-    };
-    if word.as_str() == "--help" {
-        return Ok(rt.print(HELP)?);
-    }
-    answer_file(rt, word.as_str())
-}
-
 fn main(rt: HostRuntime) -> ExitCode {
-    let Err(e) = run(&rt) else {
-        return ExitCode::SUCCESS;
-    };
-    let _ = eprintln!(rt; "verify: {e:#}");
-    ExitCode::FAILURE
+    VERIFY.run(&rt, answer)
 }
 
 #[cfg(test)]
