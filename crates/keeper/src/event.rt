@@ -30,7 +30,7 @@ impl Reason {
             Reason::Unfit => 0,
             Reason::Idle => 1,
             Reason::Busy => 2,
-            Reason::Board(refusal) => refusal.number(),
+            Reason::Board(refusal) => u64::from(refusal),
         }
     }
 }

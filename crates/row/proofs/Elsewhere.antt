@@ -1,6 +1,6 @@
 -- Nothing but the columns of this crate changes when a card comes or goes.
 use Rattle.std.proofs.Common.{◌≡◌, ℕ, List, Some, None, Option, refl, ◌∙◌, arith}
-use Rattle.row.specs.declared.lookup.Entry.{Entry}
+use Rattle.row.specs.declared.chains.Entry.{Entry}
 use Rattle.row.specs.Layout.{tally, chain}
 use Rattle.row.specs.Lookup.{bucket, found, sought, withdrawn}
 use Rattle.row.specs.Moves.{room, arrived, closed, came, gone}
@@ -19,12 +19,12 @@ only_arrived m p k = record {
   tallies = λ j h. arrived_tally m p k j (λ z. omega arith) (λ z. omega arith);
 }
 
-only_closed : (m : List ℕ) (e : Entry) → OnlyRow m (closed (withdrawn m e) e.slot)
+only_closed : (m : List ℕ) (e : Entry) → OnlyRow m (closed (withdrawn m e) e.number)
 unfolding withdrawn
 only_closed m e = record {
-  as_long = length_closed (withdrawn m e) e.slot ∙ length_written m chain e.pointer _;
-  others = λ d j a b c f g. closed_apart (withdrawn m e) e.slot d j a f g ∙ cell_apart m chain d e.pointer j _ c;
-  tallies = λ j h. closed_tally (withdrawn m e) e.slot j (λ z. omega arith) ∙ cell_apart m chain tally e.pointer j _ refl;
+  as_long = length_closed (withdrawn m e) e.number ∙ length_written m chain e.pointer _;
+  others = λ d j a b c f g. closed_apart (withdrawn m e) e.number d j a f g ∙ cell_apart m chain d e.pointer j _ c;
+  tallies = λ j h. closed_tally (withdrawn m e) e.number j (λ z. omega arith) ∙ cell_apart m chain tally e.pointer j _ refl;
 }
 
 came_by : (m : List ℕ) (k : ℕ) (o : Option ℕ) (q : Option ℕ) → found m k ≡ o → room m ≡ q → OnlyRow m (came m k).memory

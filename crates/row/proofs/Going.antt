@@ -2,7 +2,7 @@
 use Rattle.std.proofs.Common.{◌≡◌, ℕ, suc, ◌-◌, ◌<◌, ◌≤◌, true, not, eqb, List, map, Some, None, Ok, sym, refl, ap, ◌∙◌, subst, arith}
 use Rattle.std.specs.List.{range_with_len}
 use Rattle.row.specs.declared.board.Refusal.TheVariants.{Missing}
-use Rattle.row.specs.declared.lookup.Entry.{Entry}
+use Rattle.row.specs.declared.chains.Entry.{Entry}
 use Rattle.row.specs.Lists.{filter}
 use Rattle.row.specs.Columns.{cell}
 use Rattle.row.specs.Layout.{tally, ids, chain, slots, places, count, fresh}
@@ -20,7 +20,7 @@ module _ (m : List ℕ) (k : ℕ) where
   unfolding gone
   gone_missing e = rw e
 
-  pub gone_out : (e : Entry) → sought 8192 m (bucket k) k ≡ Some e → gone m k ≡ record { answer = Ok e.slot; memory = closed (withdrawn m e) e.slot }
+  pub gone_out : (e : Entry) → sought 8192 m (bucket k) k ≡ Some e → gone m k ≡ record { answer = Ok e.number; memory = closed (withdrawn m e) e.number }
   unfolding gone
   gone_out e i = rw i
 

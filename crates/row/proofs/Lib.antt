@@ -26,6 +26,8 @@ pub mod Renames
 pub mod Firsts
 pub mod Replies
 pub mod Fuel
+pub mod Walking
+pub mod Wiping
 pub mod Cells
 pub mod Seeking
 pub mod Closing

@@ -1,12 +1,12 @@
 -- What a reply says: the first link that is broken, if there is one, and that there is none just if all are kept.
-use Rattle.std.proofs.Common.{◌≡◌, ℕ, suc, ◌+◌, ◌/◌, ◌%◌, Bool, true, false, cond, ◌||◌, eqb, ltb, ◌⊎◌, List, [], ◌∷◌, ◌++◌, length, Some, None, Option, sym, refl, ap, ◌∙◌, subst, inl, inr, arith}
+use Rattle.std.proofs.Common.{◌≡◌, ℕ, suc, ◌+◌, ◌/◌, ◌%◌, Bool, true, false, cond, ◌||◌, eqb, ltb, ◌⊎◌, List, [], ◌∷◌, ◌++◌, length, Some, None, Ok, Err, Option, refl, ap, ◌∙◌, subst, inl, inr, arith}
 use Rattle.std.proofs.lemmas.Bool.Decides.{nat_tests}
 use Rattle.std.proofs.lemmas.Bool.{cases_Bool, eqb-true, ltb-true, or_cases}
 use Rattle.row.specs.declared.board.Link.{Link}
-use Rattle.row.specs.declared.keeping.Reply.TheVariants.{Kept, Broken, Refused}
+use Rattle.row.specs.declared.keeping.Misfit.{Misfit}
+use Rattle.row.specs.declared.keeping.Misfit.TheVariants.{HalfLink, TooMany}
 use Rattle.row.specs.Lists.{every}
 use Rattle.row.specs.Board.{keeps}
-use Rattle.row.specs.Lookup.{given}
 use Rattle.row.specs.Kept.{before, links_of, first_broken, kept_reply, Taken, Breaks, KeptJust, BrokenJust, RefusedJust}
 
 none_kept : (row : List ℕ) (ls : List Link) (i : ℕ) → first_broken row ls i ≡ None → keeps row ls ≡ true
@@ -59,27 +59,14 @@ unfolding first_broken before every
 breaks_some row [] behind l i k b = grind arith
 breaks_some row (a ∷ ahead) behind l i k b = let ih = breaks_some row ahead behind l (i + 1) in grind arith
 
--- the reply by what was found
-reply_kept : (o : Option ℕ) → given o Kept Broken ≡ Kept → o ≡ None
-reply_kept None e = refl
-reply_kept (Some i) e = let z : ◌≡◌ {A = ℕ} 0 1 = cc in absurd (omega arith)
-
-reply_broken : (o : Option ℕ) (i : ℕ) → given o Kept Broken ≡ Broken i → o ≡ Some i
-reply_broken None i e = let z : ◌≡◌ {A = ℕ} 0 1 = cc in absurd (omega arith)
-reply_broken (Some j) i e = let z : j ≡ i = cc in ap Some z
-
-reply_refused : (o : Option ℕ) (k : ℕ) → given o Kept Broken ≡ Refused k → ⊥
-reply_refused None k e = let z : ◌≡◌ {A = ℕ} 0 1 = cc in omega arith
-reply_refused (Some j) k e = let z : ◌≡◌ {A = ℕ} 0 1 = cc in omega arith
-
-taken_reply : (row ns : List ℕ) → Taken row ns → kept_reply row ns ≡ given (first_broken row (links_of ns) 0) Kept Broken
+taken_reply : (row ns : List ℕ) → Taken row ns → kept_reply row ns ≡ Ok (first_broken row (links_of ns) 0)
 taken_reply row ns t = grind (arith, nat_tests)
 
 pub kept_just : KeptJust
 kept_just row ns t =
     let o = first_broken row (links_of ns) 0 in (
-      (λ e. none_kept row (links_of ns) 0 (reply_kept o (sym (taken_reply row ns t) ∙ e))),
-      (λ k. taken_reply row ns t ∙ ap (λ (p : Option ℕ). given p Kept Broken) (kept_none row (links_of ns) 0 k)),
+      (λ e. none_kept row (links_of ns) 0 (let n : o ≡ None = let a = taken_reply row ns t in cc in n)),
+      (λ k. taken_reply row ns t ∙ ap Ok (kept_none row (links_of ns) 0 k)),
     )
 
 breaks_reply : (row : List ℕ) (ls : List Link) (i : ℕ) → Breaks row ls i → first_broken row ls 0 ≡ Some i
@@ -92,19 +79,19 @@ pub broken_just : BrokenJust
 broken_just row ns i t =
     let o = first_broken row (links_of ns) 0 in (
       (λ e.
-          let w = some_breaks row (links_of ns) 0 i (reply_broken o i (sym (taken_reply row ns t) ∙ e)) in
+          let w = some_breaks row (links_of ns) 0 i (let n : o ≡ Some i = let a = taken_reply row ns t in cc in n) in
           subst (λ (k : ℕ). Breaks row (links_of ns) k) (let n : w.0 ≡ i = omega arith in n) w.2),
-      (λ b. taken_reply row ns t ∙ ap (λ (p : Option ℕ). given p Kept Broken) (breaks_reply row (links_of ns) i b)),
+      (λ b. taken_reply row ns t ∙ ap Ok (breaks_reply row (links_of ns) i b)),
     )
 
-refused_by : (odd many : Bool) (o : Option ℕ) (k : ℕ) → cond odd (Refused 1) (cond many (Refused 2) (given o Kept Broken)) ≡ Refused k →
-    ((k ≡ 1) × (odd ≡ true)) ⊎ ((k ≡ 2) × (many ≡ true))
-refused_by true many o k e = inl ((let n : k ≡ 1 = cc in n), refl)
-refused_by false true o k e = inr ((let n : k ≡ 2 = cc in n), refl)
-refused_by false false o k e = absurd (reply_refused o k e)
+refused_by : (odd many : Bool) (o : Option ℕ) (e : Misfit) → cond odd (Err HalfLink) (cond many (Err TooMany) (Ok o)) ≡ Err e →
+    ((e ≡ HalfLink) × (odd ≡ true)) ⊎ ((e ≡ TooMany) × (many ≡ true))
+refused_by true many o e r = inl ((let n : e ≡ HalfLink = cc in n), refl)
+refused_by false true o e r = inr ((let n : e ≡ TooMany = cc in n), refl)
+refused_by false false o e r = let z : ◌≡◌ {A = ℕ} 0 1 = cc in absurd (omega arith)
 
 pub refused_just : RefusedJust
-refused_just row ns k e = elim (refused_by (eqb (length ns % 2) 1) (ltb 65536 (length row) || ltb 65536 (length ns / 2)) (first_broken row (links_of ns) 0) k e) [
+refused_just row ns e r = elim (refused_by (eqb (length ns % 2) 1) (ltb 65536 (length row) || ltb 65536 (length ns / 2)) (first_broken row (links_of ns) 0) e r) [
   | inl w ↦ inl (w.0, eqb-true (length ns % 2) 1 w.1)
   | inr w ↦ inr (
     w.0,

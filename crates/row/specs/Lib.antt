@@ -7,8 +7,10 @@ pub mod Excluded
 pub mod Renaming
 pub mod Kept
 pub mod Columns
+pub mod Chains
 pub mod Layout
 pub mod Lookup
+pub mod Walks
 pub mod Moves
 pub mod Telling
 pub mod Meaning

@@ -8,13 +8,14 @@
 --   found m k        the slot of a card
 --   entered m s k    the memory after the slot s was given to the card k
 --   withdrawn m e    the memory after an entry was taken out of its chain
-use Rattle.std.specs.Prelude.{ℕ, zero, suc, ◌+◌, ◌-◌, ◌*◌, ◌/◌, ◌%◌, ◌<◌, cond, ◌||◌, List, Some, None, Option, ◌==◌, nat_lt}
-use Rattle.row.specs.declared.lookup.Entry.{Entry}
+use Rattle.std.specs.Prelude.{ℕ, zero, suc, ◌+◌, ◌/◌, ◌<◌, cond, List, Some, None, Option, ◌==◌}
+use Rattle.row.specs.declared.chains.Entry.{Entry}
 use Rattle.row.specs.Columns.{cell, written}
+use Rattle.row.specs.Chains.{spread, held}
 use Rattle.row.specs.Layout.{ids, chain}
 
 unfoldable pub bucket : ℕ → ℕ
-bucket k = k * 11400714819323198485 % 18446744073709551616 / 2251799813685248
+bucket k = spread k / 2251799813685248
 
 abbrev pub given : {X Y : Type 0} → Option X → Y → (X → Y) → Y
 given None z f = z
@@ -26,23 +27,23 @@ Below (Some s) = s < 8192
 
 abbrev pub EntryBelow : Option Entry → Type 0
 EntryBelow None = Unit {0}
-EntryBelow (Some e) = e.slot < 8192
+EntryBelow (Some e) = e.number < 8192
 
 unfoldable pub followed : List ℕ → ℕ → Option ℕ
-followed m p = cond (cell m chain p == 0 || nat_lt 8192 (cell m chain p)) None (Some (cell m chain p - 1))
+followed m p = held chain 8192 m p
 
 abbrev pub entry : ℕ → ℕ → Entry
-entry p s = record { pointer = p; slot = s }
+entry p s = record { pointer = p; number = s }
 
 unfoldable pub sought : ℕ → List ℕ → ℕ → ℕ → Option Entry
 sought zero m p k = None
 sought (suc f) m p k = given (followed m p) None (λ s. cond (cell m ids s == k) (Some (entry p s)) (sought f m (8192 + s) k))
 
 unfoldable pub found : List ℕ → ℕ → Option ℕ
-found m k = given (sought 8192 m (bucket k) k) None (λ e. Some e.slot)
+found m k = given (sought 8192 m (bucket k) k) None (λ e. Some e.number)
 
 unfoldable pub entered : List ℕ → ℕ → ℕ → List ℕ
 entered m s k = written (written (written m ids s k) chain (8192 + s) (cell m chain (bucket k))) chain (bucket k) (s + 1)
 
 unfoldable pub withdrawn : List ℕ → Entry → List ℕ
-withdrawn m e = written m chain e.pointer (cell m chain (8192 + e.slot))
+withdrawn m e = written m chain e.pointer (cell m chain (8192 + e.number))

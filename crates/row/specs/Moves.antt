@@ -59,4 +59,4 @@ closed m s =
 unfoldable pub gone : List ℕ → ℕ → Outcome
 gone m k =
     given (sought 8192 m (bucket k) k) (refused m Missing)
-    (λ e. record { answer = Ok e.slot; memory = closed (withdrawn m e) e.slot })
+    (λ e. record { answer = Ok e.number; memory = closed (withdrawn m e) e.number })

@@ -3,14 +3,14 @@ ghost use Rattle.std.specs.Prelude.{◌≡◌};
 ghost use Rattle.row.specs.Commands.{number};
 
 // The card `from` has to stand before the card `to`.
-#[derive(Clone, Copy, PartialEq, Eq)]
+#[derive(Clone, Copy, Debug, PartialEq, Eq)]
 pub struct Link {
     pub from: u64,
     pub to: u64,
 }
 
 // What can be said: a card comes, at the end of the row, or goes, with its links; a link is made, or taken back; the places of two cards are asked for.
-#[derive(Clone, Copy)]
+#[derive(Clone, Copy, Debug, PartialEq, Eq)]
 pub enum Command {
     Comes(u64),
     Goes(u64),
@@ -20,7 +20,7 @@ pub enum Command {
 }
 
 // Why not: a card or a link that is spoken of isn't there; it is there already; the link would go round in a circle; there is no room.
-#[derive(Clone, Copy, PartialEq, Eq)]
+#[derive(Clone, Copy, Debug, PartialEq, Eq)]
 pub enum Refusal {
     Missing,
     Exists,
@@ -28,12 +28,12 @@ pub enum Refusal {
     Full,
 }
 
-impl Refusal {
-    // The number by which a refusal is told.
-    pub fn number(self) -> u64
-        ensures { result ≡ number self }
-    {
-        match self {
+// The number by which a refusal is told.
+impl From<Refusal> for u64 {
+    ghost from_gives = { λ refusal n. n ≡ number refusal };
+
+    fn from(refusal: Refusal) -> u64 {
+        match refusal {
             Refusal::Missing => 3,
             Refusal::Exists => 4,
             Refusal::Cycle => 5,

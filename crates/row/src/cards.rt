@@ -20,13 +20,11 @@ pub fn len(memory: &[u64]) -> u64
 }
 
 // How many cards stand before this one, if it's there.
+#[tactic(auto, unfolding(crate::specs::Moves::place_found))]
 pub fn place_of(memory: &[u64], card: u64) -> Option<u64>
     ensures { result ≡ place_found memory.now card }
 {
-    let Some(slot) = find(memory, card) else {
-        return None;
-    };
-    Some(place_at(memory, slot))
+    find(memory, card).map(|slot| place_at(memory, slot))
 }
 
 // How many cards stand before the card in a slot.
@@ -37,15 +35,17 @@ pub fn place_at(memory: &[u64], slot: u64) -> u64
 }
 
 // The place behind the last card, if there's room for one more.
+#[tactic(auto, unfolding(crate::specs::Moves::room))]
 fn end_of(memory: &[u64]) -> Option<u64>
     ensures is { result ≡ room memory.now }
     ensures below { Below result }
 {
     let place = len(memory);
-    if place < CARDS { Some(place) } else { None }
+    (place < CARDS).then_some(place)
 }
 
 // The slot at the row's end: one that was in use before, or the first that never was.
+#[tactic(auto, unfolding(crate::specs::Moves::slot_for, crate::specs::Moves::taken))]
 fn take_slot(memory: &mut [u64], place: u64) -> u64
     requires { place < 8192 }
     ensures is { result ≡ slot_for memory.old place }
@@ -61,16 +61,15 @@ fn take_slot(memory: &mut [u64], place: u64) -> u64
 }
 
 // A card comes, at the end of the row; says its slot.
+#[tactic(auto, unfolding(crate::specs::Moves::came, crate::specs::Moves::arrived))]
 pub fn comes(memory: &mut [u64], card: u64) -> Result<u64, Refusal>
     ensures is { result ≡ (came memory.old card).answer }
     ensures after { memory.new ≡ (came memory.old card).memory }
 {
-    let None = find(memory, card) else {
+    if find(memory, card).is_some() {
         return Err(Refusal::Exists);
-    };
-    let Some(place) = end_of(memory) else {
-        return Err(Refusal::Full);
-    };
+    }
+    let place = end_of(memory).ok_or(Refusal::Full)?;
     let slot = take_slot(memory, place);
     enter(memory, slot, card);
     PLACES.set(memory, slot, place);
@@ -79,6 +78,7 @@ pub fn comes(memory: &mut [u64], card: u64) -> Result<u64, Refusal>
 }
 
 // Moves each card behind `from`, up to `to`, one place to the left.
+#[tactic(auto, using(crate::proofs::Closing::steps))]
 fn shift(memory: &mut [u64], from: u64, to: u64)
     ensures { memory.new ≡ shifted (to - from) memory.old from }
 {
@@ -90,6 +90,7 @@ fn shift(memory: &mut [u64], from: u64, to: u64)
 }
 
 // The place of the last card.
+#[tactic(auto, unfolding(crate::specs::Moves::last))]
 fn last_place(memory: &[u64]) -> u64
     ensures { result ≡ last memory.now }
 {
@@ -97,6 +98,7 @@ fn last_place(memory: &[u64]) -> u64
 }
 
 // Takes a slot out of the row, which closes; the slot waits behind it.
+#[tactic(auto, unfolding(crate::specs::Moves::closed))]
 fn close(memory: &mut [u64], slot: u64)
     ensures { memory.new ≡ closed memory.old slot }
 {
@@ -109,14 +111,13 @@ fn close(memory: &mut [u64], slot: u64)
 }
 
 // A card goes; the others stay in their order. Says the slot that it had.
+#[tactic(auto, unfolding(crate::specs::Moves::gone))]
 pub fn goes(memory: &mut [u64], card: u64) -> Result<u64, Refusal>
     ensures is { result ≡ (gone memory.old card).answer }
     ensures after { memory.new ≡ (gone memory.old card).memory }
 {
-    let Some(entry) = seek(memory, card) else {
-        return Err(Refusal::Missing);
-    };
+    let entry = seek(memory, card).ok_or(Refusal::Missing)?;
     withdraw(memory, entry);
-    close(memory, entry.slot);
-    Ok(entry.slot)
+    close(memory, entry.number);
+    Ok(entry.number)
 }

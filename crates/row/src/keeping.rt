@@ -1,14 +1,24 @@
 // Whether a row keeps links, which are given as numbers, two to a link.
 ghost use Rattle.std.specs.Prelude.{◌≡◌};
-ghost use Rattle.row.specs.Kept.{before, links_of, first_broken, kept_reply, Among, Names};
+ghost use Rattle.row.specs.Kept.{before, broken_pair, kept_reply, misfit_number, Names};
 
-// The row keeps the links; or the number of the first link that it doesn't keep, counted from 0; or why the question is refused: 1, the last link has no
-// second card; 2, there are too many cards or links.
-#[derive(Clone, Copy, PartialEq, Eq)]
-pub enum Reply {
-    Kept,
-    Broken(u64),
-    Refused(u64),
+// Why it can't be said whether a row keeps links: the last link has no second card, or there are too many cards or links.
+#[derive(Clone, Copy, Debug, PartialEq, Eq)]
+pub enum Misfit {
+    HalfLink,
+    TooMany,
+}
+
+// The number by which it is told.
+impl From<Misfit> for u64 {
+    ghost from_gives = { λ misfit n. n ≡ misfit_number misfit };
+
+    fn from(misfit: Misfit) -> u64 {
+        match misfit {
+            Misfit::HalfLink => 1,
+            Misfit::TooMany => 2,
+        }
+    }
 }
 
 // How many cards, and how many links, are looked at.
@@ -18,44 +28,33 @@ const MOST: usize = 65536;
 fn before(row: &[u64], from: u64, to: u64) -> bool
     ensures { result ≡ before row.now from to }
 {
-    for card in row {
-        if *card == to {
-            return false;
-        }
-        if *card == from {
-            return true;
-        }
-    }
-    false
+    row.iter()
+        .find(|card| **card == from || **card == to)
+        .is_some_and(|card| *card != to)
 }
 
 // The number of the first link that the row doesn't keep.
-fn first_broken(row: &[u64], links: &[u64]) -> Option<u64>
-    ensures is { result ≡ first_broken row.now (links_of links.now) 0 }
-    ensures among { Among links.now result }
+fn first_broken(row: &[u64], links: &[[u64; 2]]) -> Option<u64>
+    ensures { result ≡ broken_pair row.now links.now }
 {
-    for i in 0..links.len() / 2 {
-        if !before(row, links[2 * i], links[2 * i + 1]) {
-            return Some(i as u64);
-        }
-    }
-    None
+    links
+        .iter()
+        .position(|[from, to]| !before(row, *from, *to))
+        .map(|i| i as u64)
 }
 
-// Whether each link's first card stands before its second. A card that isn't in the row stands behind all that are; one that is there twice stands where it
-// is met first. Each link costs at most one look at each card.
-pub fn kept(row: &[u64], links: &[u64]) -> Reply
+// The number of the first link, counted from 0, whose first card doesn't stand before its second; none if the row keeps all links. A card that isn't in
+// the row stands behind all that are; one that is there twice stands where it is met first. Each link costs at most one look at each card.
+pub fn kept(row: &[u64], links: &[u64]) -> Result<Option<u64>, Misfit>
     ensures is { result ≡ kept_reply row.now links.now }
     ensures names { Names links.now result }
 {
-    if links.len() % 2 == 1 {
-        return Reply::Refused(1);
+    let (links, half) = links.as_chunks::<2>();
+    if !half.is_empty() {
+        return Err(Misfit::HalfLink);
     }
-    if row.len() > MOST || links.len() / 2 > MOST {
-        return Reply::Refused(2);
+    if row.len() > MOST || links.len() > MOST {
+        return Err(Misfit::TooMany);
     }
-    match first_broken(row, links) {
-        Some(i) => Reply::Broken(i),
-        None => Reply::Kept,
-    }
+    Ok(first_broken(row, links))
 }

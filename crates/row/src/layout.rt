@@ -1,5 +1,6 @@
 // Where the columns of this crate lie in the lent memory. They begin at different offsets within a page, which keeps them out of each other's cache
 // lines.
+use crate::chains::Family;
 use crate::column::Column;
 
 // How many cards there may be at once.
@@ -19,11 +20,18 @@ pub const IDS: Column = Column {
     size: 8192,
 };
 
-// The pointers of the hash chains: CARDS heads by bucket, then one by slot, to the next slot in its chain. A pointer is a slot plus one, or 0.
-pub const CHAIN: Column = Column {
-    base: 8328,
-    size: 16384,
+// The hash chains, whose entries are the slots, with as many heads as there are slots.
+pub const CHAINS: Family = Family {
+    pointers: Column {
+        base: 8328,
+        size: 16384,
+    },
+    heads: CARDS,
+    entries: CARDS,
 };
+
+// How many spread numbers share a bucket of cards: 2^64 over how many heads there are.
+pub const BUCKET: u64 = 0x0008_0000_0000_0000;
 
 // By place: the slot of the card that stands there, and behind the cards the slots that are free again.
 pub const SLOTS: Column = Column {

@@ -3,6 +3,7 @@
 
 mod board;
 mod cards;
+mod chains;
 mod column;
 mod keeping;
 mod laws;
@@ -10,11 +11,13 @@ mod layout;
 mod lookup;
 mod telling;
 mod theory;
+mod walk;
 
 pub use board::{Command, Link, Refusal};
 pub use cards::{comes, goes, len, place_at, place_of};
+pub use chains::{Entry, Family, spread};
 pub use column::Column;
-pub use keeping::{Reply, kept};
+pub use keeping::{Misfit, kept};
 pub use laws::{
     apart_stands, begins_stands, comes_appends_stands, depends_stands, else_stays_stands,
     finds_stands, goes_filters_stands, slots_named_stands, tells_stands,
@@ -28,3 +31,4 @@ pub use theory::{
     little_is_loose_stands, only_between_stands, only_one_stands, only_touched_stands,
     refused_just_stands, renames_stands, round_there_stands, stays_fine_stands, week_stands,
 };
+pub use walk::Walk;

@@ -1,12 +1,11 @@
-use Rattle.std.proofs.Common.{arith}
-use Rattle.row.proofs.Firsts.{firsts}
+use Rattle.std.proofs.Common.{not, slice_index, rules, tests, arith}
+use Rattle.std.proofs.lemmas.Iterator.{YieldsList-from_slice}
+use Rattle.std.proofs.lemmas.Iterator.Search.{position_from_yields_List}
+use Rattle.row.specs.Kept.{before}
 use Rattle.row.proofs.keeping.first_broken.Goals as goal
 
-pub returns-then-not-before : goal.returns-then-not-before
-returns-then-not-before c = record { is = grind (arith, firsts); among = omega arith }
-
-pub loop-i-preserved : goal.loop-i-preserved
-loop-i-preserved c = grind (arith, firsts)
-
 pub returns : goal.returns
-returns c = record { is = grind (arith, firsts); among = tt }
+returns c =
+    let row = c.args.row.now in
+    let e = position_from_yields_List (λ p. not (before row (slice_index p 0) (slice_index p 1))) _ _ c.position.result c.position.ensures.ran (YieldsList-from_slice c.args.links.now cc) (λ x b q k. search (rules, tests)) in
+    grind (arith)
