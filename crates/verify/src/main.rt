@@ -8,7 +8,7 @@ ghost use Rattle.row.specs.Kept.{Names};
 use anyhow::{Context, ensure};
 use input::{Question, decode, split};
 use program::Program;
-use row::{Reply, kept};
+use row::{Misfit, kept};
 use std::process::ExitCode;
 
 const VERIFY: Program = Program {
@@ -39,19 +39,21 @@ If the input can't be read, or ends inside a number or before all its cards
 have come, a message on standard error says so, and the status is 1.
 ";
 
-// Prints the reply to a question on these links.
-fn print(rt: &HostRuntime, links: &[u64], reply: Reply) -> anyhow::Result<()>
+// Prints what was found out about these links.
+fn print(rt: &HostRuntime, links: &[u64], reply: Result<Option<u64>, Misfit>) -> anyhow::Result<()>
     requires { Names links.now reply }
 {
     match reply {
-        Reply::Kept => println!(rt; "kept")?,
-        Reply::Broken(i) => {
-            let at = 2 * i as usize;
-            let from = links[at];
-            let to = links[at + 1];
+        Ok(None) => println!(rt; "kept")?,
+        Ok(Some(i)) => {
+            let (links, _half) = links.as_chunks::<2>();
+            let [from, to] = links[i as usize];
             println!(rt; "broken {i}: {from} {to}")?
         }
-        Reply::Refused(reason) => println!(rt; "refused {reason}")?,
+        Err(misfit) => {
+            let number = u64::from(misfit);
+            println!(rt; "refused {number}")?
+        }
     }
     Ok(())
 }
@@ -71,29 +73,35 @@ fn main(rt: HostRuntime) -> ExitCode {
 
 #[cfg(test)]
 mod tests {
-    use row::{Reply, kept};
+    use row::{Misfit, kept};
     use std::test::Fail;
 
     const ROW: [u64; 6] = [1, 5, 2, 4, 3, 6];
 
-    const CASES: [(&str, &[u64], &[u64], Reply); 10] = [
-        ("all kept", &ROW, &[1, 5, 5, 2, 2, 3, 4, 6], Reply::Kept),
-        ("broken", &ROW, &[1, 5, 4, 2, 3, 2], Reply::Broken(1)),
-        ("to a missing card", &ROW, &[6, 9], Reply::Kept),
-        ("from a missing card", &ROW, &[9, 6], Reply::Broken(0)),
-        ("two missing cards", &ROW, &[8, 9], Reply::Broken(0)),
-        ("a card before itself", &ROW, &[4, 4], Reply::Broken(0)),
-        ("half a link", &ROW, &[6, 1, 2], Reply::Refused(1)),
-        ("no card and no link", &[], &[], Reply::Kept),
-        ("from a double card", &[2, 1, 2], &[2, 1], Reply::Kept),
-        ("to a double card", &[2, 1, 2], &[1, 2], Reply::Broken(0)),
+    const CASES: [(&str, &[u64], &[u64], Result<Option<u64>, Misfit>); 10] = [
+        ("all kept", &ROW, &[1, 5, 5, 2, 2, 3, 4, 6], Ok(None)),
+        ("broken", &ROW, &[1, 5, 4, 2, 3, 2], Ok(Some(1))),
+        ("to a missing card", &ROW, &[6, 9], Ok(None)),
+        ("from a missing card", &ROW, &[9, 6], Ok(Some(0))),
+        ("two missing cards", &ROW, &[8, 9], Ok(Some(0))),
+        ("a card before itself", &ROW, &[4, 4], Ok(Some(0))),
+        ("half a link", &ROW, &[6, 1, 2], Err(Misfit::HalfLink)),
+        ("no card and no link", &[], &[], Ok(None)),
+        ("from a double card", &[2, 1, 2], &[2, 1], Ok(None)),
+        ("to a double card", &[2, 1, 2], &[1, 2], Ok(Some(0))),
     ];
 
     #[test]
     fn replies(rt: HostRuntime) {
         for (name, row, links, reply) in CASES {
-            assert!(rt; kept(row, links) == reply, "{name}");
+            assert_eq!(rt; kept(row, links), reply, "{name}");
         }
+    }
+
+    #[test]
+    fn numbers(rt: HostRuntime) {
+        assert_eq!(rt; u64::from(Misfit::HalfLink), 1);
+        assert_eq!(rt; u64::from(Misfit::TooMany), 2);
     }
 
     #[test]
@@ -104,9 +112,9 @@ mod tests {
         let links = &all[0..131072];
         let longer = &links[0..65537];
         let row = &longer[0..65536];
-        assert!(rt; kept(longer, &[]) == Reply::Refused(2), "a card too many");
-        assert!(rt; kept(&[], all) == Reply::Refused(2), "a link too many");
-        assert!(rt; kept(row, links) == Reply::Broken(0), "just as many");
+        assert_eq!(rt; kept(longer, &[]), Err(Misfit::TooMany), "a card too many");
+        assert_eq!(rt; kept(&[], all), Err(Misfit::TooMany), "a link too many");
+        assert_eq!(rt; kept(row, links), Ok(Some(0)), "just as many");
         Ok(())
     }
 }
