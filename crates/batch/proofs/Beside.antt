@@ -2,7 +2,7 @@
 use Rattle.std.proofs.Common.{◌≡◌, ℕ, zero, suc, ◌+◌, ◌-◌, ◌^◌, ◌<◌, min, true, eqb, List, length, refl, ◌∙◌, arith}
 use Rattle.std.proofs.lemmas.Bool.{cond_both}
 use Rattle.row.specs.declared.column.Column.{Column}
-use Rattle.row.specs.Columns.{cell, written, apart}
+use Rattle.row.specs.Columns.{cell, written, apart, wiped}
 use Rattle.row.specs.Layout.{slots, places}
 use Rattle.row.proofs.Cells.{length_written, cell_apart}
 use Rattle.links.specs.Layout.{froms, tos}
@@ -49,7 +49,7 @@ module _ (T : Column → Type 0) where
   beside_only c m n off o = record { as_long = o.long; others = λ d j t. o.others d j (off d t); small = o.small }
 
   pub beside_blanked : (f : ℕ) (m : List ℕ) (c : Column) (i : ℕ) → Off T c → Beside T m (blanked f m c i)
-  unfolding blanked
+  unfolding blanked wiped
   beside_blanked zero m c i off = beside_same m
   beside_blanked (suc f) m c i off =
       let m₁ = written m c i 0 in

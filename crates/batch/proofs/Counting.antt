@@ -4,7 +4,7 @@ use Rattle.std.proofs.lemmas.Bool.{cases_eq, eq-eqb, ne_eqb, ltb-true, not-false
 use Rattle.row.specs.declared.board.Link.{Link}
 use Rattle.row.specs.Lists.{filter}
 use Rattle.row.specs.declared.column.Column.{Column}
-use Rattle.row.specs.Columns.{cell, written, apart}
+use Rattle.row.specs.Columns.{cell, written, apart, wiped}
 use Rattle.row.specs.Layout.{tally}
 use Rattle.row.proofs.Cells.{length_written, cell_same, cell_other}
 use Rattle.links.specs.Layout.{live, end, froms, tos}
@@ -38,12 +38,12 @@ raised_is m c s x h l u = elim (cases_eq x s) [
 
 -- a column of zeros
 blanked_out : (f : ℕ) (m : List ℕ) (c : Column) (i q : ℕ) → q < i → cell (blanked f m c i) c q ≡ cell m c q
-unfolding blanked
+unfolding blanked wiped
 blanked_out zero m c i q h = refl
 blanked_out (suc f) m c i q h = blanked_out f (written m c i 0) c (i + 1) q (omega arith) ∙ cell_other m c i q 0 (λ z. omega arith)
 
 pub blanked_in : (f : ℕ) (m : List ℕ) (c : Column) (i q : ℕ) → c.base + c.size ≤ length m → i ≤ q → q < i + f → q < c.size → cell (blanked f m c i) c q ≡ 0
-unfolding blanked
+unfolding blanked wiped
 blanked_in zero m c i q l a b h = absurd (omega arith)
 blanked_in (suc f) m c i q l a b h =
     let m₁ = written m c i 0 in

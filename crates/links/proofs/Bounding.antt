@@ -3,7 +3,7 @@ use Rattle.std.proofs.Common.{◌≡◌, ℕ, zero, suc, ◌+◌, ◌-◌, ◌%�
 use Rattle.std.proofs.lemmas.Bool.{ltb-true}
 use Rattle.row.specs.declared.board.Link.{Link}
 use Rattle.row.specs.declared.board.Refusal.TheVariants.{Missing}
-use Rattle.row.specs.Columns.{cell, written}
+use Rattle.row.specs.Columns.{wiped, cell, written}
 use Rattle.row.specs.Layout.{tally}
 use Rattle.row.specs.Lookup.{given}
 use Rattle.row.specs.Moves.{refused}
@@ -62,7 +62,7 @@ module _ (P : Type 0) where
   kept_appended m x s = kept_cond P m (ltb (end m) 67584) _ m (λ t. kept_added m (end m) x (ltb-true (end m) 67584 t) s) (λ t. kept_refl P m)
 
   kept_blanked : (f : ℕ) (m₀ m : List ℕ) (c : Chain) (i : ℕ) → Kept P m₀ m → Kept P m₀ (blanked f m (pointers c) i)
-  unfolding blanked
+  unfolding blanked wiped
   kept_blanked zero m₀ m c i h = h
   kept_blanked (suc f) m₀ m c i h =
       kept_blanked f m₀ (written m (pointers c) i 0) c (i + 1) (kept_written P m₀ m h (pointers c) i 0 (own_pointers c) (λ q w. omega arith))

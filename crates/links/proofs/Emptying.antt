@@ -5,7 +5,7 @@ use Rattle.std.proofs.lemmas.Bool.Decides.{nat_tests}
 use Rattle.std.proofs.lemmas.Bool.{cases_eq}
 use Rattle.row.specs.declared.column.Column.{Column}
 use Rattle.row.specs.Board.{◌⟶◌}
-use Rattle.row.specs.Columns.{cell, written, apart}
+use Rattle.row.specs.Columns.{wiped, cell, written, apart}
 use Rattle.row.specs.Layout.{tally}
 use Rattle.row.proofs.Cells.{length_written, cell_same, cell_other, cell_apart}
 use Rattle.links.specs.declared.chain.Chain.{Chain}
@@ -43,18 +43,18 @@ tabled_none m g l z h =
 
 -- zeros to a column
 pub length_blanked : (f : ℕ) (m : List ℕ) (c : Column) (i : ℕ) → length (blanked f m c i) ≡ length m
-unfolding blanked
+unfolding blanked wiped
 length_blanked zero m c i = refl
 length_blanked (suc f) m c i = length_blanked f (written m c i 0) c (i + 1) ∙ length_written m c i 0
 
 pub blanked_apart : (f : ℕ) (m : List ℕ) (c d : Column) (i j : ℕ) → apart c d ≡ true → cell (blanked f m c i) d j ≡ cell m d j
-unfolding blanked
+unfolding blanked wiped
 blanked_apart zero m c d i j a = refl
 blanked_apart (suc f) m c d i j a = blanked_apart f (written m c i 0) c d (i + 1) j a ∙ cell_apart m c d i j 0 a
 
 blanked_in : (f : ℕ) (m : List ℕ) (c : Column) (i q : ℕ) → c.base + c.size ≤ length m → q < c.size
     → cell (blanked f m c i) c q ≡ cond (leb i q && ltb q (i + f)) 0 (cell m c q)
-unfolding blanked
+unfolding blanked wiped
 blanked_in zero m c i q g h = grind (arith, nat_tests)
 blanked_in (suc f) m c i q g h =
     let ih = blanked_in f (written m c i 0) c (i + 1) q (omega (arith, length_written m c i 0)) h in

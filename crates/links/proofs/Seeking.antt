@@ -2,10 +2,16 @@
 use Rattle.std.proofs.Common.{◌≡◌, ℕ, zero, suc, ◌+◌, ◌-◌, ◌<◌, ◌≤◌, Bool, true, false, not, ◌&&◌, eqb, List, is_some, Some, None, sym, refl, ap, ◌∙◌, inl, inr, arith}
 use Rattle.std.proofs.lemmas.Bool.Decides.{nat_tests}
 use Rattle.std.proofs.lemmas.Bool.{cases_Bool, cases_eq, and_parts, not-true}
+use Rattle.std.specs.List.{find}
+use Rattle.std.specs.Option.{option_map}
 use Rattle.row.specs.declared.board.Link.{Link}
+use Rattle.row.specs.declared.chains.Entry.{Entry}
 use Rattle.row.specs.Board.{◌⟶◌}
 use Rattle.row.specs.Lists.{any}
 use Rattle.row.specs.Columns.{cell}
+use Rattle.row.specs.Chains.{held}
+use Rattle.row.specs.Walks.{walked}
+use Rattle.row.proofs.Walking.{find_given}
 use Rattle.links.specs.declared.chain.Chain.TheVariants.{Pair}
 use Rattle.links.specs.Layout.{end, pointers}
 use Rattle.links.specs.Chains.{dead, followed}
@@ -25,6 +31,14 @@ joins_is x y h =
     let q : y.to ≡ x.to = grind (arith, nat_tests) in
     let r : (y.from ⟶ y.to) ≡ (x.from ⟶ x.to) = cc in
     r
+
+-- seeking is finding in a walk
+pub sought_in : (f : ℕ) (m : List ℕ) (p : ℕ) (x : Link) → sought f m p x ≡ option_map (λ e. e.number) (find (λ e. is_link m x e.number) (walked f (pointers Pair) 16384 67584 m p))
+unfolding sought walked followed
+sought_in zero m p x = refl
+sought_in (suc f) m p x =
+    find_given (λ (e : Entry). e.number) (λ (e : Entry). is_link m x e.number) p (held (pointers Pair) 67584 m p) (λ l. sought f m (16384 + l) x)
+    (λ l. walked f (pointers Pair) 16384 67584 m (16384 + l)) (λ l. sought_in f m (16384 + l) x)
 
 -- the ways of a step
 sought_none : (t : ℕ) (m : List ℕ) (p : ℕ) (x : Link) → followed m Pair p ≡ None → sought t m p x ≡ None

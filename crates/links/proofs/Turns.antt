@@ -1,39 +1,16 @@
 -- The steps of the loops.
-use Rattle.std.proofs.Common.{◌≡◌, ℕ, ◌+◌, ◌-◌, ◌<◌, ◌≤◌, true, false, cond, List, Some, None, arith}
-use Rattle.std.proofs.lemmas.Bool.Decides.{nat_tests}
-use Rattle.row.specs.declared.board.Link.{Link}
+use Rattle.std.proofs.Common.{◌≡◌, ℕ, ◌+◌, ◌-◌, ◌<◌, ◌≤◌, List, Some, None}
 use Rattle.row.specs.declared.column.Column.{Column}
 use Rattle.row.specs.Columns.{written}
 use Rattle.row.specs.Lookup.{given}
+use Rattle.row.proofs.Wiping.{wiped_go, wiped_end}
 use Rattle.row.proofs.Fuel.{fuel_step, fuel_end}
 use Rattle.links.specs.declared.chain.Chain.{Chain}
-use Rattle.links.specs.declared.chain.Chain.TheVariants.{Pair}
 use Rattle.links.specs.Layout.{heads}
 use Rattle.links.specs.Chains.{followed}
-use Rattle.links.specs.Entries.{is_link, sought, buried}
+use Rattle.links.specs.Entries.{buried}
 use Rattle.links.specs.Building.{blanked, carried, refilled}
 use Rattle.links.specs.Removing.{struck}
-
-sought_at : (N i : ℕ) (m : List ℕ) (p : ℕ) (x : Link) → i < N →
-    sought (N - i) m p x ≡ given (followed m Pair p) None (λ l. cond (is_link m x l) (Some l) (sought (N - (i + 1)) m (16384 + l) x))
-unfolding sought
-sought_at N i m p x h = fuel_step (λ f. sought f m p x) N i h
-
-pub sought_stop : (N i : ℕ) (m : List ℕ) (p : ℕ) (x : Link) → i < N → followed m Pair p ≡ None → sought (N - i) m p x ≡ None
-sought_stop N i m p x h e = rw e at (sought_at N i m p x h)
-
-pub sought_hit : (N i : ℕ) (m : List ℕ) (p l : ℕ) (x : Link) → i < N → followed m Pair p ≡ Some l → is_link m x l ≡ true → sought (N - i) m p x ≡ Some l
-sought_hit N i m p l x h e w = let a = rw e at (sought_at N i m p x h) in grind (arith, nat_tests)
-
-pub sought_go : (N i : ℕ) (m : List ℕ) (p l : ℕ) (x : Link) → i < N → followed m Pair p ≡ Some l → is_link m x l ≡ false →
-    sought (N - i) m p x ≡ sought (N - (i + 1)) m (16384 + l) x
-sought_go N i m p l x h e w = let a = rw e at (sought_at N i m p x h) in grind (arith, nat_tests)
-
-pub sought_end : (N i : ℕ) (m : List ℕ) (p : ℕ) (x : Link) → N ≤ i → sought (N - i) m p x ≡ None
-unfolding sought
-sought_end N i m p x h = fuel_end (λ f. sought f m p x) N i h
-
-pub ruleset seeks = (sought_stop, sought_hit, sought_go, sought_end)
 
 struck_at : (N i : ℕ) (m : List ℕ) (c : Chain) (p : ℕ) → i < N →
     struck (N - i) m c p ≡ given (followed m c p) m (λ l. struck (N - (i + 1)) (buried m l) c (heads c + l))
@@ -55,11 +32,11 @@ pub ruleset strikes = (struck_stop, struck_go, struck_end)
 
 pub blanked_go : (N i : ℕ) (m : List ℕ) (c : Column) → i < N → blanked (N - i) m c i ≡ blanked (N - (i + 1)) (written m c i 0) c (i + 1)
 unfolding blanked
-blanked_go N i m c h = fuel_step (λ f. blanked f m c i) N i h
+blanked_go = wiped_go
 
 pub blanked_end : (N i j : ℕ) (m : List ℕ) (c : Column) → N ≤ i → blanked (N - i) m c j ≡ m
 unfolding blanked
-blanked_end N i j m c h = fuel_end (λ f. blanked f m c j) N i h
+blanked_end = wiped_end
 
 pub ruleset blanks = (blanked_go, blanked_end)
 

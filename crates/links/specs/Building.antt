@@ -15,7 +15,7 @@
 use Rattle.std.specs.Prelude.{ℕ, zero, suc, ◌+◌, ◌%◌, min, cond, List, nat_lt}
 use Rattle.row.specs.declared.board.Link.{Link}
 use Rattle.row.specs.declared.column.Column.{Column}
-use Rattle.row.specs.Columns.{written}
+use Rattle.row.specs.Columns.{written, wiped}
 use Rattle.row.specs.Layout.{tally}
 use Rattle.links.specs.declared.chain.Chain.{Chain}
 use Rattle.links.specs.declared.chain.Chain.TheVariants.{Out, In, Pair}
@@ -36,8 +36,7 @@ unfoldable pub appended : List ℕ → Link → List ℕ
 appended m x = cond (nat_lt (end m) 67584) (added m (end m) x) m
 
 unfoldable pub blanked : ℕ → List ℕ → Column → ℕ → List ℕ
-blanked zero m c i = m
-blanked (suc f) m c i = blanked f (written m c i 0) c (i + 1)
+blanked f m c i = wiped f m c i
 
 abbrev pub headless : List ℕ → Chain → List ℕ
 headless m c = blanked (heads c) m (pointers c) 0

@@ -6,8 +6,9 @@
 --   met m c p        what a step at a pointer meets
 --   stepped m c p    the memory after it: a dead entry is out of its chain
 --   pushed m c k l   the memory after the entry l was put in front of the chain of k
-use Rattle.std.specs.Prelude.{ℕ, ◌+◌, ◌-◌, ◌<◌, Bool, cond, not, ◌||◌, List, Some, None, Option, ◌==◌, nat_lt}
+use Rattle.std.specs.Prelude.{ℕ, ◌+◌, ◌<◌, Bool, cond, not, List, Some, None, Option, nat_lt}
 use Rattle.row.specs.Columns.{cell, written}
+use Rattle.row.specs.Chains.{held}
 use Rattle.row.specs.Lookup.{given}
 use Rattle.links.specs.declared.chain.Chain.{Chain}
 use Rattle.links.specs.declared.chain.Meeting.{Meeting}
@@ -22,7 +23,7 @@ abbrev pub dead : List ℕ → ℕ → Bool
 dead m l = not (nat_lt (cell m froms l) 8192)
 
 unfoldable pub followed : List ℕ → Chain → ℕ → Option ℕ
-followed m c p = cond (cell m (pointers c) p == 0 || nat_lt 67584 (cell m (pointers c) p)) None (Some (cell m (pointers c) p - 1))
+followed m c p = held (pointers c) 67584 m p
 
 unfoldable pub met : List ℕ → Chain → ℕ → Meeting
 met m c p = given (followed m c p) End (λ l. cond (dead m l) Dead (Living l (heads c + l)))

@@ -12,6 +12,7 @@ use Rattle.std.specs.Prelude.{ℕ, zero, suc, ◌+◌, ◌-◌, ◌*◌, ◌/◌
 use Rattle.row.specs.declared.board.Link.{Link}
 use Rattle.row.specs.Board.{◌⟶◌}
 use Rattle.row.specs.Columns.{cell, written}
+use Rattle.row.specs.Chains.{spread}
 use Rattle.row.specs.Layout.{tally}
 use Rattle.row.specs.Lookup.{given}
 use Rattle.links.specs.declared.chain.Chain.{Chain}
@@ -21,7 +22,7 @@ use Rattle.links.specs.Chains.{dead, followed}
 
 unfoldable pub pair_bucket : Link → ℕ
 pair_bucket x =
-    (x.from * 8192 % 18446744073709551616 + x.to) % 18446744073709551616 * 11400714819323198485 % 18446744073709551616 / 1125899906842624
+    spread ((x.from * 8192 % 18446744073709551616 + x.to) % 18446744073709551616) / 1125899906842624
 
 abbrev pub key : Chain → Link → ℕ
 key Out x = x.from

@@ -1,15 +1,14 @@
 // Links are put into the table, and the table is built again of its living ones.
 ghost use Rattle.std.specs.Prelude.{◌≡◌};
-ghost use Rattle.links.specs.Layout.{pointers, heads};
-ghost use Rattle.links.specs.Building.{appended, blanked, emptied, carried, rebuilt, roomy, inserted};
+ghost use Rattle.links.specs.Building.{appended, emptied, carried, rebuilt, roomy, inserted};
 
-use crate::chain::{Chain, push};
 use crate::entries::{from_of, len, to_of};
 use crate::finding::bucket_of;
-use crate::layout::{END, ENTRIES, FROM, LIVE, SLOTS, TO};
+use crate::layout::{END, ENTRIES, FROM, IN, LIVE, OUT, PAIR, SLOTS, TO};
 use row::{Link, TALLY};
 
 // Puts a link at the table's end, and in front of its chains; nothing if the table is full.
+#[tactic(auto, unfolding(crate::specs::Building::appended, crate::specs::Building::added, crate::specs::Building::hung, crate::specs::Building::set_down, crate::specs::Chains::pushed))]
 fn append(memory: &mut [u64], link: Link)
     ensures { memory.new ≡ appended memory.old link }
 {
@@ -20,35 +19,27 @@ fn append(memory: &mut [u64], link: Link)
     let live = len(memory);
     FROM.set(memory, entry, link.from);
     TO.set(memory, entry, link.to);
-    push(memory, Chain::Out, link.from, entry);
-    push(memory, Chain::In, link.to, entry);
-    push(memory, Chain::Pair, bucket_of(link), entry);
+    OUT.push(memory, link.from, entry);
+    IN.push(memory, link.to, entry);
+    PAIR.push(memory, bucket_of(link), entry);
     TALLY.set(memory, LIVE, live.wrapping_add(1));
     TALLY.set(memory, END, entry + 1);
 }
 
-// Empties the chains of a family.
-fn blank(memory: &mut [u64], chain: Chain)
-    ensures { memory.new ≡ blanked (heads chain) memory.old (pointers chain) 0 }
-{
-    let pointers = chain.pointers();
-    for key in 0..chain.heads() {
-        pointers.set(memory, key, 0);
-    }
-}
-
 // Leaves no link; the entries still hold what they held.
+#[tactic(auto, unfolding(crate::specs::Building::emptied, crate::specs::Building::blanked))]
 fn empty(memory: &mut [u64])
     ensures { memory.new ≡ emptied memory.old }
 {
-    blank(memory, Chain::Out);
-    blank(memory, Chain::In);
-    blank(memory, Chain::Pair);
+    OUT.empty(memory);
+    IN.empty(memory);
+    PAIR.empty(memory);
     TALLY.set(memory, LIVE, 0);
     TALLY.set(memory, END, 0);
 }
 
 // Puts what an entry holds at the table's end, if it lives.
+#[tactic(auto, unfolding(crate::specs::Building::carried))]
 fn carry(memory: &mut [u64], entry: u64)
     ensures { memory.new ≡ carried memory.old entry }
 {
@@ -60,6 +51,7 @@ fn carry(memory: &mut [u64], entry: u64)
 }
 
 // Builds the table again of its living links, in their order.
+#[tactic(auto, using(crate::proofs::Turns::refills), unfolding(crate::specs::Building::rebuilt))]
 pub fn rebuild(memory: &mut [u64])
     ensures { memory.new ≡ rebuilt memory.old }
 {
@@ -71,6 +63,7 @@ pub fn rebuild(memory: &mut [u64])
 }
 
 // Builds the table again, if it is full.
+#[tactic(auto, unfolding(crate::specs::Building::roomy))]
 fn make_room(memory: &mut [u64])
     ensures { memory.new ≡ roomy memory.old }
 {

@@ -29,6 +29,7 @@ pub fn to_of(memory: &[u64], entry: u64) -> u64
 }
 
 // Marks an entry dead, if it lives.
+#[tactic(auto, unfolding(crate::specs::Entries::buried))]
 pub(crate) fn bury(memory: &mut [u64], entry: u64)
     ensures { memory.new ≡ buried memory.old entry }
 {

@@ -1,28 +1,28 @@
 // From a link to its entry, by the chain of its bucket.
 ghost use Rattle.std.specs.Prelude.{◌≡◌};
 ghost use Rattle.links.specs.Chains.{Below};
-ghost use Rattle.links.specs.Entries.{pair_bucket, is_link, found};
+ghost use Rattle.links.specs.Entries.{pair_bucket, link_at, found};
 
-use crate::chain::{Chain, follow};
 use crate::entries::{from_of, to_of};
-use crate::layout::{BUCKETS, ENTRIES, SLOTS};
-use row::Link;
+use crate::layout::{BUCKET, PAIR, SLOTS};
+use row::{Link, spread};
 
-// The bucket of a link, by multiplication with 2^64 over the golden ratio.
+// The bucket of a link.
+#[tactic(auto, unfolding(crate::specs::Entries::pair_bucket))]
 pub(crate) fn bucket_of(link: Link) -> u64
     ensures { result ≡ pair_bucket link }
 {
-    link.from
-        .wrapping_mul(SLOTS)
-        .wrapping_add(link.to)
-        .wrapping_mul(0x9E37_79B9_7F4A_7C15)
-        / 0x0004_0000_0000_0000
+    spread(link.from.wrapping_mul(SLOTS).wrapping_add(link.to)) / BUCKET
 }
 
-fn is_link(memory: &[u64], entry: u64, link: Link) -> bool
-    ensures { result ≡ is_link memory.now link entry }
+// The link that an entry holds.
+pub(crate) fn link_at(memory: &[u64], entry: u64) -> Link
+    ensures { result ≡ link_at memory.now entry }
 {
-    from_of(memory, entry) == link.from && to_of(memory, entry) == link.to
+    Link {
+        from: from_of(memory, entry),
+        to: to_of(memory, entry),
+    }
 }
 
 // The entry of a link between slots, if it's there.
@@ -30,15 +30,7 @@ pub fn find(memory: &[u64], link: Link) -> Option<u64>
     ensures is { result ≡ found memory.now link }
     ensures below { Below result }
 {
-    let mut pointer = bucket_of(link);
-    for _i in 0..ENTRIES {
-        let Some(entry) = follow(memory, Chain::Pair, pointer) else {
-            return None;
-        };
-        if is_link(memory, entry, link) {
-            return Some(entry);
-        }
-        pointer = BUCKETS + entry;
-    }
-    None
+    PAIR.walk(memory, bucket_of(link))
+        .find(|entry| link_at(memory, entry.number) == link)
+        .map(|entry| entry.number)
 }

@@ -1,5 +1,5 @@
 // Where the columns of this crate lie in the lent memory, behind those of `row`. They begin at different offsets within a page.
-use row::{CARDS, Column};
+use row::{CARDS, Column, Family};
 
 // How many entries the table has: more than there may be living links, so that building it again makes room for some.
 pub const ENTRIES: u64 = 67584;
@@ -12,27 +12,39 @@ pub const LIVE: u64 = 2;
 
 pub const END: u64 = 3;
 
-// The pointers of the three families of chains: first the heads by key, then one by entry, to the next of its chain. A pointer is an entry plus one,
-// or 0.
-pub const OUT: Column = Column {
-    base: 41312,
-    size: 75776,
-};
-
-pub const IN: Column = Column {
-    base: 117160,
-    size: 75776,
-};
-
-pub const PAIR: Column = Column {
-    base: 193008,
-    size: 83968,
-};
-
-// How many heads they have: one to a slot, and one to a bucket of pairs.
+// How many slots there are.
 pub const SLOTS: u64 = CARDS;
 
-pub const BUCKETS: u64 = 16384;
+// The three families of chains through the table. The first two have a head to a slot, the third one to a bucket of pairs.
+pub const OUT: Family = Family {
+    pointers: Column {
+        base: 41312,
+        size: 75776,
+    },
+    heads: SLOTS,
+    entries: ENTRIES,
+};
+
+pub const IN: Family = Family {
+    pointers: Column {
+        base: 117160,
+        size: 75776,
+    },
+    heads: SLOTS,
+    entries: ENTRIES,
+};
+
+pub const PAIR: Family = Family {
+    pointers: Column {
+        base: 193008,
+        size: 83968,
+    },
+    heads: 16384,
+    entries: ENTRIES,
+};
+
+// How many spread numbers share a bucket of pairs: 2^64 over how many heads there are.
+pub const BUCKET: u64 = 0x0004_0000_0000_0000;
 
 // By entry: the slots that the link comes out of and goes into; SLOTS, which is no slot, where the entry is dead.
 pub const FROM: Column = Column {

@@ -3,13 +3,14 @@ ghost use Rattle.std.specs.Prelude.{◌≡◌};
 ghost use Rattle.links.specs.Removing.{settled, removed, struck, cleared, removed_all};
 
 use crate::building::rebuild;
-use crate::chain::{Chain, follow};
+use crate::chain::Chain;
 use crate::entries::{bury, len};
 use crate::finding::find;
 use crate::layout::{END, ENTRIES, SLACK};
 use row::{Link, Refusal, TALLY};
 
 // Builds the table again, if too many of it are dead.
+#[tactic(auto, unfolding(crate::specs::Removing::settled))]
 fn settle(memory: &mut [u64])
     ensures { memory.new ≡ settled memory.old }
 {
@@ -21,41 +22,44 @@ fn settle(memory: &mut [u64])
 }
 
 // Takes a link between slots out of the table; says the entry that it had.
+#[tactic(auto, unfolding(crate::specs::Removing::removed))]
 pub fn remove(memory: &mut [u64], link: Link) -> Result<u64, Refusal>
     ensures is { result ≡ (removed memory.old link).answer }
     ensures after { memory.new ≡ (removed memory.old link).memory }
 {
-    let Some(entry) = find(memory, link) else {
-        return Err(Refusal::Missing);
-    };
+    let entry = find(memory, link).ok_or(Refusal::Missing)?;
     bury(memory, entry);
     settle(memory);
     Ok(entry)
 }
 
 // Marks all of a chain dead, from a pointer on.
+#[tactic(auto, using(crate::proofs::Turns::strikes), unfolding(crate::specs::Chains::followed))]
 fn strike(memory: &mut [u64], chain: Chain, first: u64)
     ensures { memory.new ≡ struck 67584 memory.old chain first }
 {
+    let family = chain.family();
     let mut pointer = first;
-    for _i in 0..ENTRIES {
-        let Some(entry) = follow(memory, chain, pointer) else {
+    for _step in 0..ENTRIES {
+        let Some(entry) = family.follow(memory, pointer) else {
             return;
         };
         bury(memory, entry);
-        pointer = chain.heads() + entry;
+        pointer = family.heads + entry;
     }
 }
 
 // Marks all of a slot's chain dead, and empties it.
+#[tactic(auto, unfolding(crate::specs::Removing::cleared))]
 fn clear(memory: &mut [u64], chain: Chain, slot: u64)
     ensures { memory.new ≡ cleared memory.old chain slot }
 {
     strike(memory, chain, slot);
-    chain.pointers().set(memory, slot, 0);
+    chain.family().pointers.set(memory, slot, 0);
 }
 
 // Takes all links out of a slot and into it out of the table.
+#[tactic(auto, unfolding(crate::specs::Removing::removed_all))]
 pub fn remove_all(memory: &mut [u64], slot: u64)
     ensures { memory.new ≡ removed_all memory.old slot }
 {

@@ -1,10 +1,11 @@
 -- The steps of a walk along a chain.
-use Rattle.std.proofs.Common.{◌≡◌, ℕ, zero, suc, ◌+◌, ◌-◌, ◌<◌, Bool, cond, List, [], ◌∷◌, Some, None, Option, refl, inl, inr, arith}
+use Rattle.std.proofs.Common.{◌≡◌, ℕ, zero, suc, ◌+◌, ◌-◌, ◌<◌, Bool, cond, ◌||◌, eqb, ltb, List, [], ◌∷◌, Some, None, Option, refl, inl, inr, arith}
 use Rattle.std.specs.List.{find}
 use Rattle.std.specs.Option.{option_map}
-use Rattle.std.proofs.lemmas.Bool.{cases_Bool}
+use Rattle.std.proofs.lemmas.Bool.{cases_Bool, or_parts, ltb-false, eqb-false, cond_both}
 use Rattle.row.specs.declared.chains.Entry.{Entry}
 use Rattle.row.specs.declared.column.Column.{Column}
+use Rattle.row.specs.Columns.{cell}
 use Rattle.row.specs.Chains.{held}
 use Rattle.row.specs.Lookup.{given, entry}
 use Rattle.row.specs.Walks.{walked}
@@ -27,9 +28,34 @@ module _ (c : Column) (h n : ℕ) (m : List ℕ) (p : ℕ) where
 
 pub ruleset walks = (walked_over, walked_stop, walked_on)
 
+-- what is so of nothing, and of what f makes of each thing that may be in an Option, is so of what is given
+given_holds : {X Y : Type 0} (A : Option X → Type 0) (B : Y → Type 0) (o : Option X) (z : Y) (f : X → Y) → A o → B z → ((x : X) → A (Some x) → B (f x)) →
+    B (given o z f)
+given_holds A B None z f a b k = b
+given_holds A B (Some x) z f a b k = k x a
+
 -- finding in what a walk meets: at its end, or at the first entry and behind it
 pub find_given : {X : Type 0} (v : Entry → X) (test : Entry → Bool) (p : ℕ) (o : Option ℕ) (g : ℕ → Option X) (w : ℕ → List Entry) →
     ((s : ℕ) → g s ≡ option_map v (find test (w s))) →
     given o None (λ s. cond (test (entry p s)) (Some (v (entry p s))) (g s)) ≡ option_map v (find test (given o [] (λ s. entry p s ∷ w s)))
 find_given v test p None g w h = refl
 find_given v test p (Some s) g w h = elim (cases_Bool (test (entry p s))) [ inl t ↦ rw t refl | inr t ↦ rw t (h s) ]
+
+-- what a pointer holds is an entry, and so is what is found in a walk
+module _ (c : Column) (h n : ℕ) (m : List ℕ) where
+  abbrev Under : Option ℕ → Type 0
+  Under None = Unit {0}
+  Under (Some l) = l < n
+
+  held_under : (p : ℕ) → Under (held c n m p)
+  held_under p = elim (cases_Bool (eqb (cell m c p) 0 || ltb n (cell m c p))) [
+    | inl t ↦ rw t tt
+    | inr t ↦ let q = or_parts (eqb (cell m c p) 0) (ltb n (cell m c p)) t in rw t (omega (arith, ltb-false _ _ q.1, eqb-false _ _ q.0))
+  ]
+
+  pub find_holds : (P : Option Entry → Type 0) (test : Entry → Bool) → P None → ((e : Entry) → e.number < n → P (Some e)) → (f p : ℕ) → P (find test (walked f c h n m p))
+  unfolding walked
+  find_holds P test z k zero p = z
+  find_holds P test z k (suc f) p =
+      given_holds Under (λ w. P (find test w)) (held c n m p) [] (λ l. entry p l ∷ walked f c h n m (h + l)) (held_under p) z (λ l b.
+      cond_both (test (entry p l)) (Some (entry p l)) (find test (walked f c h n m (h + l))) P (λ _. k (entry p l) b) (λ _. find_holds P test z k f (h + l)))

@@ -3,6 +3,7 @@
 // A chain is gone through by its pointers, not by its entries: an entry goes with the pointer that holds it, so that taking it out is one write, the same
 // for the first of a chain and for any other.
 ghost use Rattle.std.specs.Prelude.{◌≡◌, ◌+◌, ◌<◌, ◌^◌, IfSome};
+ghost use Rattle.row.specs.Columns.{wiped};
 ghost use Rattle.row.specs.Chains.{spread, held, put_first, taken_out};
 
 use crate::column::Column;
@@ -41,6 +42,13 @@ impl Family {
             .get(memory, pointer)
             .checked_sub(1)
             .filter(|entry| *entry < self.entries)
+    }
+
+    // Empties all chains; the entries still point where they did.
+    pub fn empty(self, memory: &mut [u64])
+        ensures { memory.new ≡ wiped self.heads memory.old self.pointers 0 }
+    {
+        self.pointers.blank(memory, self.heads);
     }
 
     // Puts an entry in front of the chain of a key; nothing, if there is no such entry.
