@@ -1,5 +1,5 @@
 -- A link is made that the row keeps already, or is refused at once.
-use Rattle.std.proofs.Common.{◌≡◌, ℕ, ◌<◌, ◌≤◌, true, false, ◌&&◌, List, [], ◌∷◌, ◌++◌, map, length, is_some, Some, None, Option, sym, refl, ap, ◌∙◌, subst, ap₂, inl, inr, arith}
+use Rattle.std.proofs.Common.{◌≡◌, ℕ, ◌<◌, ◌≤◌, true, false, ◌&&◌, List, [], ◌∷◌, ◌++◌, map, length, is_some, Some, None, Option, Ok, Err, sym, refl, ap, ◌∙◌, subst, ap₂, inl, inr, arith}
 use Rattle.std.proofs.lemmas.Bool.{cases_Bool, cases_eq, cases_lt, both_ways, eq-eqb, ne_eqb, le-ltb, le-leb, lt-leb, and_from}
 use Rattle.row.proofs.Leading.{leads_just, leads_before}
 use Rattle.row.specs.declared.board.Link.{Link}
@@ -29,7 +29,7 @@ use Rattle.links.proofs.Bounding.{writes_only}
 use Rattle.search.specs.Meaning.{slot_board, Ready}
 use Rattle.keeper.specs.declared.event.Event.TheVariants.{Said}
 use Rattle.keeper.specs.declared.event.Reason.TheVariants.{Board as ByBoard}
-use Rattle.keeper.specs.declared.event.Act.TheVariants.{Shows, Refused}
+use Rattle.keeper.specs.declared.event.Act.TheVariants.{Shows}
 use Rattle.keeper.specs.Promise.{small_command}
 use Rattle.keeper.specs.Answers.{quiet, ends, pending, leaves_pending}
 use Rattle.keeper.specs.Linking.{slots_found, put_in, linked as linking}
@@ -95,9 +95,9 @@ module _ (m : List ℕ) (R : Ready m) (o : once (edges m) ≡ true) (i : pending
           let k : l.from ≡ l.to = sym A.card ∙ ap (cell m ids) e ∙ B.card in
           let m₁ = leaves_pending m 2 in
           let ld : leads r l.to l.from ≡ true = subst (λ (y : ℕ). leads r l.to y ≡ true) (sym k) (leads_just r l.to l.to l.to (fine_cards m R)).0 in
-          let a = step_said m (Links l) (record { act = Shows 1; memory = m₁; numbers = l.from ∷ [] }) i sm
+          let a = step_said m (Links l) (record { act = Ok (Shows 1); memory = m₁; numbers = l.from ∷ [] }) i sm
           (rw (slots_there m R l s t A B, not_found, eq-eqb s t e) refl) in
-          let b = step_next m₁ (quiet (ends (Refused (ByBoard Cycle)) (leaves_pending m₁ 0))) (went_round m₁ (is_pending m R 2)) in
+          let b = step_next m₁ (quiet (ends (Err (ByBoard Cycle)) (leaves_pending m₁ 0))) (went_round m₁ (is_pending m R 2)) in
           round_kept own 3 Means m r (leaves_pending m₁ 0) l (l.from ∷ []) (rw (both, linked_here ∙ n, ld))
           (and_from _ _ (and_from _ _ (eq-eqb l.from l.to k) (eq-eqb l.from l.from refl)) refl)
           (shows_refused own m m₁ (leaves_pending m₁ 0) (Said (Links l)) (l.from ∷ []) a 5 (omega arith) (omega arith) b) (settles m m₁ R o (noted m 4 2 (omega arith)))

@@ -29,5 +29,6 @@ pub mod ToldRuns
 pub mod ToldParts
 pub mod Wholly
 pub mod PlayedOn
+pub mod Room
 pub mod PlayedRun
 pub mod RowRead

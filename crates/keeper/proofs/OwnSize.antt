@@ -1,7 +1,7 @@
 -- Each step of the keeper's engine keeps the size of the memory, and its answer fits what carries it.
 use Rattle.std.proofs.Common.{◌≡◌, ℕ, suc, ◌+◌, ◌-◌, ◌^◌, ◌<◌, ◌≤◌, min, Bool, true, false, cond, eqb, ltb, leb, List, [], ◌∷◌, length, get_or, take, Some, None, Ok, Err, Option, Result, refl, arith, length-take}
 use lib.ListN.{length-map}
-use Rattle.std.proofs.lemmas.Bool.{and_parts, and_from, lt-ltb, ltb-true, cond_both}
+use Rattle.std.proofs.lemmas.Bool.{and_parts, and_from, lt-ltb, ltb-true}
 use Rattle.row.specs.declared.board.Command.{Command}
 use Rattle.row.specs.declared.board.Command.TheVariants.{Comes, Goes, Link as Links, Unlink as Unlinks, Places}
 use Rattle.row.specs.declared.board.Link.{Link}
@@ -27,7 +27,7 @@ use Rattle.search.proofs.Joining.{way_few}
 use Rattle.keeper.specs.declared.event.Event.{Event}
 use Rattle.keeper.specs.declared.event.Event.TheVariants.{Said, Next}
 use Rattle.keeper.specs.declared.event.Reason.TheVariants.{Idle, Busy, Board}
-use Rattle.keeper.specs.declared.event.Act.TheVariants.{Shows, Done, Refused}
+use Rattle.keeper.specs.declared.event.Act.TheVariants.{Shows, Done}
 use Rattle.keeper.specs.Engine.{action_of}
 use Rattle.keeper.specs.Promise.{all_small, small_command, Steady}
 use Rattle.keeper.specs.Sized.{small_event, KeepsSize, fits, Fits}
@@ -36,7 +36,7 @@ use Rattle.keeper.specs.Telling.{middle, left_to_tell, told_part}
 use Rattle.keeper.specs.Reordering.{round_cards, shown_round, moved, reordered}
 use Rattle.keeper.specs.Linking.{slots_found, unlinked, put_in, linked}
 use Rattle.keeper.specs.Own.{left, shown_places, said, finished, went_on, answer, steps, own}
-use Rattle.keeper.proofs.Size.{every_getD, small_take, small_map, small_cell, size_same, size_then, size_written, size_cond, given_holds, guarded_fits, fits_tells, fits_shows}
+use Rattle.keeper.proofs.Size.{every_getD, small_take, small_map, small_cell, size_same, size_then, size_written, cond_holds, given_holds, guarded_fits, fits_tells, fits_shows}
 use Rattle.keeper.proofs.RowSize.{found_below, size_came, size_gone}
 use Rattle.keeper.proofs.Zeros.{steady_zeros}
 
@@ -87,7 +87,7 @@ size_pending m m₁ k l b = size_written m m₁ tally 4 k (λ _. l) b
 abbrev pub Sized : List ℕ → Answer → Type 0
 Sized m a = KeepsSize m a.memory × (all_small m ≡ true → fits (action_of a.act a.numbers) ≡ true)
 
-refusal_fits : (e : Refusal) → fits (action_of (Refused (Board e)) []) ≡ true
+refusal_fits : (e : Refusal) → fits (action_of (Err (Board e)) []) ≡ true
 unfolding fits
 refusal_fits Missing = refl
 refusal_fits Exists = refl
@@ -95,7 +95,7 @@ refusal_fits Cycle = refl
 refusal_fits Full = refl
 
 module _ (m m₁ : List ℕ) (b : KeepsSize m m₁) where
-  pub sized_done : Sized m (quiet (ends Done m₁))
+  pub sized_done : Sized m (quiet (ends (Ok Done) m₁))
   unfolding fits
   sized_done = (b, λ _. refl)
 
@@ -111,14 +111,13 @@ by_result_holds B (Ok s) f g p q = p s
 by_result_holds B (Err e) f g p q = q e
 
 pub sized_cond : (m : List ℕ) (t : Bool) (a b : Answer) → Sized m a → Sized m b → Sized m (cond t a b)
-sized_cond m true a b p q = p
-sized_cond m false a b p q = q
+sized_cond m t a b p q = cond_holds (Sized m) t a b p q
 
 -- the row is told
 size_left : (m : List ℕ) (i j : ℕ) → i ≤ 16384 → j ≤ 8192 → KeepsSize m (left_to_tell m i j)
 unfolding left_to_tell
 size_left m i j l u =
-    size_cond m _ _ (ltb i j)
+    cond_holds (KeepsSize m) (ltb i j) _ _
     (size_written m _ tally 6 j (λ _. omega arith) (size_written m _ tally 5 i (λ _. omega arith) (size_pending m m 3 (omega arith) (size_same m))))
     (size_pending m m 1 (omega arith) (size_same m))
 
@@ -137,7 +136,7 @@ sized_told m i j =
 
 -- numbers are shown
 abbrev shows_of : List ℕ → ℕ → List ℕ → Answer
-shows_of m n ks = record { act = Shows n; memory = m; numbers = ks }
+shows_of m n ks = record { act = Ok (Shows n); memory = m; numbers = ks }
 
 pub sized_shows : (m m₁ : List ℕ) (n : ℕ) (ks : List ℕ) → KeepsSize m m₁ → length ks ≤ 8192 → (all_small m ≡ true → all_small ks ≡ true) →
     Sized m (shows_of m₁ n ks)
@@ -201,8 +200,7 @@ sized_reordered m x b =
 sized_put : (m : List ℕ) (x : Link) → BothBelow (Some x) → Sized m (quiet (put_in m x))
 unfolding put_in
 sized_put m x b =
-    cond_both (leb 65536 (live m)) (refuses m Full) (ends Done (inserted m x)) (λ (e : Ended). Sized m (quiet e))
-    (λ _. sized_refuses m m (size_same m) Full) (λ _. sized_done m _ (size_inserted m x b))
+    cond_holds (λ (e : Ended). Sized m (quiet e)) (leb 65536 (live m)) _ _ (sized_refuses m m (size_same m) Full) (sized_done m _ (size_inserted m x b))
 
 sized_linked : (m : List ℕ) (l : Link) → l.from < 18446744073709551616 → Sized m (linked m l)
 unfolding linked
@@ -241,7 +239,7 @@ sized_said m (Links l) h = sized_linked m l (ltb-true _ _ (and_parts (ltb l.from
 sized_said m (Unlinks l) h = sized_unlinked m l
 sized_said m (Places a b) h = sized_places m a b
 
-finished_fits : (a b : Bool) → fits (action_of (cond a Done (cond b (Refused (Board Cycle)) (Refused Idle))) []) ≡ true
+finished_fits : (a b : Bool) → fits (action_of (cond a (Ok Done) (cond b (Err (Board Cycle)) (Err Idle))) []) ≡ true
 unfolding fits
 finished_fits true b = refl
 finished_fits false true = refl
@@ -254,7 +252,7 @@ pub sized_on : (m : List ℕ) → Sized m (went_on m)
 unfolding went_on
 sized_on m = sized_cond m (eqb (pending m) 3) _ _ (sized_told m (cell m tally 5) (cell m tally 6)) (sized_finished m)
 
-pub sized_busy : (m : List ℕ) → Sized m (quiet (ends (Refused Busy) m))
+pub sized_busy : (m : List ℕ) → Sized m (quiet (ends (Err Busy) m))
 unfolding fits
 sized_busy m = (size_same m, λ _. refl)
 

@@ -1,5 +1,5 @@
 -- The places of two cards are asked for: they are shown, and the memory means the same board.
-use Rattle.std.proofs.Common.{◌≡◌, ℕ, true, false, List, [], ◌∷◌, Some, None, refl, ap, ◌∙◌, inl, inr, arith}
+use Rattle.std.proofs.Common.{◌≡◌, ℕ, true, false, List, [], ◌∷◌, Some, None, Ok, refl, ap, ◌∙◌, inl, inr, arith}
 use Rattle.std.proofs.lemmas.Bool.{cases_Bool}
 use Rattle.row.specs.declared.board.Command.TheVariants.{Places}
 use Rattle.row.specs.declared.board.Refusal.TheVariants.{Missing}
@@ -59,8 +59,8 @@ module _ (m : List ℕ) (R : Ready m) (o : once (edges m) ≡ true) (i : pending
   shown h g =
       let m₁ = leaves_pending m 1 in
       let ks = place r.row a ∷ place r.row b ∷ [] in
-      let e = step_said m (Places a b) (record { act = Shows 2; memory = m₁; numbers = ks }) i sm (rw (at a h, at b g)) in
-      let f = step_next m₁ (quiet (ends Done (leaves_pending m₁ 0))) (went_done m₁ (is_pending m R 1)) in
+      let e = step_said m (Places a b) (record { act = Ok (Shows 2); memory = m₁; numbers = ks }) i sm (rw (at a h, at b g)) in
+      let f = step_next m₁ (quiet (ends (Ok Done) (leaves_pending m₁ 0))) (went_done m₁ (is_pending m R 1)) in
       places_kept own 3 Means m r (leaves_pending m₁ 0) (fine_cards m R) a b (rw (has_row a ∙ h, has_row b ∙ g))
       (shows_done own m m₁ (leaves_pending m₁ 0) (Said (Places a b)) ks e f) (settles m m₁ R o (noted m 4 1 (omega arith)))
 

@@ -1,51 +1,29 @@
--- A step of the loop that plays a command, against its model.
-use Rattle.std.proofs.Common.{◌≡◌, ℕ, ◌+◌, ◌-◌, ◌<◌, ◌≤◌, Bool, true, false, List, Some, None, Option, refl, ap, ◌∙◌}
+-- A command that is played goes from answer to answer as its model does.
+use Rattle.std.proofs.Common.{◌≡◌, ℕ, zero, suc, ◌-◌, Bool, true, false, List, Result, refl, ap, arith}
 use Rattle.keeper.specs.declared.event.Event.{Event}
 use Rattle.keeper.specs.declared.event.Event.TheVariants.{Next}
 use Rattle.keeper.specs.declared.event.Reason.{Reason}
-use Rattle.keeper.specs.declared.event.Reason.TheVariants.{Busy}
 use Rattle.keeper.specs.declared.event.Act.{Act}
-use Rattle.keeper.specs.declared.event.Act.TheVariants.{Tells, Shows, Done, Refused}
-use Rattle.row.proofs.Fuel.{fuel_step, fuel_end}
 use Rattle.keeper.specs.Own.{step_fits, StepBy, StepSays}
-use Rattle.keeper.specs.Playing.{Stepped, stepped, Ending, by_act, plays}
+use Rattle.keeper.specs.Playing.{Stepped, stepped, by_act, plays, played_on}
 
-abbrev pub to : Act → List ℕ → List ℕ → Stepped
+abbrev pub to : Result Act Reason → List ℕ → List ℕ → Stepped
 to r m out = record { act = r; memory = m; out = out }
 
-abbrev pub ending : ℕ → Option Reason → List ℕ → List ℕ → Ending
-ending s o m out = record { answer = record { shown = s; refused = o }; memory = m; out = out }
-
-stepped_by : (b : Bool) (m : List ℕ) (ev : Event) (out : List ℕ) (r : Act) (m₁ out₁ : List ℕ) → step_fits m out ≡ b → StepBy b m ev out r m₁ out₁ →
-    stepped m ev out ≡ to r m₁ out₁
+stepped_by : (b : Bool) (m : List ℕ) (ev : Event) (out : List ℕ) (r : Result Act Reason) (m₁ out₁ : List ℕ) → step_fits m out ≡ b →
+    StepBy b m ev out r m₁ out₁ → stepped m ev out ≡ to r m₁ out₁
 unfolding stepped StepBy
 stepped_by true m ev out r m₁ out₁ f t = rw (f, t.act, t.memory, t.told)
 stepped_by false m ev out r m₁ out₁ f t = rw (f, t.act, t.memory, t.told)
 
-module _ (i : ℕ) (m : List ℕ) (ev : Event) (out : List ℕ) (r : Act) (m₁ out₁ : List ℕ) (s : ℕ) (l : i < 3) (t : StepSays m ev out r m₁ out₁) where
-  goes_by : plays (3 - i) m ev out s ≡ by_act (λ m₂ out₂ s₂. plays (3 - (i + 1)) m₂ Next out₂ s₂) m₁ out₁ s r
+module _ (m : List ℕ) (ev : Event) (out : List ℕ) (r : Result Act Reason) (m₁ out₁ : List ℕ) (s : ℕ) (t : StepSays m ev out r m₁ out₁) where
+  -- what comes of an event is what comes of its answer
+  pub plays_on : (n : ℕ) → plays (suc n) m ev out s ≡ played_on n m₁ r out₁ s
   unfolding plays
-  goes_by =
-      fuel_step (λ n. plays n m ev out s) 3 i l
-      ∙ ap (λ (x : Stepped). by_act (λ m₂ out₂ s₂. plays (3 - (i + 1)) m₂ Next out₂ s₂) x.memory x.out s x.act)
+  plays_on n =
+      ap (λ (x : Stepped). by_act (λ m₂ out₂ s₂. plays n m₂ Next out₂ s₂) x.memory x.out s x.act)
       (stepped_by (step_fits m out) m ev out r m₁ out₁ refl t)
 
-  pub plays_tells : (p n : ℕ) → r ≡ Tells p n → plays (3 - i) m ev out s ≡ plays (3 - (i + 1)) m₁ Next out₁ s
-  unfolding by_act
-  plays_tells p n e = goes_by ∙ (rw e)
-
-  pub plays_shows : (n : ℕ) → r ≡ Shows n → plays (3 - i) m ev out s ≡ plays (3 - (i + 1)) m₁ Next out₁ n
-  unfolding by_act
-  plays_shows n e = goes_by ∙ (rw e)
-
-  pub plays_done : r ≡ Done → plays (3 - i) m ev out s ≡ ending s None m₁ out₁
-  unfolding by_act
-  plays_done e = goes_by ∙ (rw e)
-
-  pub plays_refused : (w : Reason) → r ≡ Refused w → plays (3 - i) m ev out s ≡ ending s (Some w) m₁ out₁
-  unfolding by_act
-  plays_refused w e = goes_by ∙ (rw e)
-
-pub plays_end : (i : ℕ) (m : List ℕ) (ev : Event) (out : List ℕ) (s : ℕ) → 3 ≤ i → plays (3 - i) m ev out s ≡ ending s (Some Busy) m out
-unfolding plays
-plays_end i m ev out s l = fuel_end (λ n. plays n m ev out s) 3 i l
+  pub plays_then : (k : ℕ) → (k ≡ 0 → ⊥) → plays k m ev out s ≡ played_on (k - 1) m₁ r out₁ s
+  plays_then zero n = absurd (n refl)
+  plays_then (suc k) n = let e : suc k - 1 ≡ k = omega arith in rw e (plays_on k)

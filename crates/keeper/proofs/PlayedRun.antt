@@ -1,5 +1,5 @@
 -- A command that is played goes as it runs on the engine: the same memory after it, and refused for the reason by which the run ended.
-use Rattle.std.proofs.Common.{◌≡◌, ℕ, zero, suc, ◌≤◌, true, cond, ◌&&◌, ltb, leb, List, [], length, take, drop, Some, None, Option, sym, refl, ap, ◌∙◌, subst, inl, inr, arith, length-append, length-drop}
+use Rattle.std.proofs.Common.{◌≡◌, ℕ, zero, suc, ◌≤◌, true, cond, ◌&&◌, ltb, leb, List, [], length, take, drop, Some, None, Option, Ok, Err, Result, sym, refl, ap, ◌∙◌, subst, inl, inr, arith, length-append, length-drop}
 use lib.ListN.{length-replicate}
 use Rattle.std.proofs.lemmas.Bool.Decides.{nat_tests as tests}
 use Rattle.std.proofs.lemmas.Bool.{cases_Bool}
@@ -11,7 +11,7 @@ use Rattle.keeper.specs.declared.event.Event.TheVariants.{Said, Next}
 use Rattle.keeper.specs.declared.event.Reason.{Reason}
 use Rattle.keeper.specs.declared.event.Reason.TheVariants.{Unfit, Idle, Busy, Board as ByBoard}
 use Rattle.keeper.specs.declared.event.Act.{Act}
-use Rattle.keeper.specs.declared.event.Act.TheVariants.{Tells, Shows, Done, Refused}
+use Rattle.keeper.specs.declared.event.Act.TheVariants.{Tells, Shows, Done}
 use Rattle.keeper.specs.Engine.{action_of, Ran, one_act, runs, run_of}
 use Rattle.keeper.specs.Promise.{Refused as RefusedSo}
 use Rattle.keeper.specs.Sister.{DoneFirm}
@@ -76,7 +76,7 @@ board_agrees v k m e =
     ((λ z. absurd (omega (arith, (three_up v).0))), λ w z. (ap (λ (x : Refusal). Some (ByBoard x)) (number_once v w (sym e ∙ z)), refl))
 
 module _ (go : Go) (on : List ℕ → List ℕ → ℕ → Ending) (ts : List Told) (ss : List (List ℕ)) (m out : List ℕ) (s : ℕ) where
-  refused_agrees : (e : Reason) (ks : List ℕ) → Agrees (one_act go ts ss m (action_of (Refused e) ks)) (by_act on m out s (Refused e))
+  refused_agrees : (e : Reason) (ks : List ℕ) → Agrees (one_act go ts ss m (action_of (Err e) ks)) (by_act on m out s (Err e))
   unfolding one_act by_act
   refused_agrees Unfit ks = neither 1001 _ _ _ (λ z. omega arith) (high 1001 (omega arith))
   refused_agrees Idle ks = neither 1 _ _ _ (λ z. omega arith) (λ w z. omega (arith, (three_up w).0))
@@ -84,15 +84,15 @@ module _ (go : Go) (on : List ℕ → List ℕ → ℕ → Ending) (ts : List To
   refused_agrees (ByBoard v) ks = board_agrees v _ m (ended_by v)
 
   pub act_agrees : ((ts₁ : List Told) (ss₁ : List (List ℕ)) (s₁ : ℕ) → Agrees (go m ts₁ ss₁) (on m out s₁)) →
-      (a : Act) (ks : List ℕ) → Agrees (one_act go ts ss m (action_of a ks)) (by_act on m out s a)
+      (a : Result Act Reason) (ks : List ℕ) → Agrees (one_act go ts ss m (action_of a ks)) (by_act on m out s a)
   unfolding one_act by_act
-  act_agrees h (Tells p n) ks = elim (cases_Bool (leb (length (take n ks)) 4096)) [
+  act_agrees h (Ok (Tells p n)) ks = elim (cases_Bool (leb (length (take n ks)) 4096)) [
     | inl t ↦ rw t (h _ ss s)
     | inr t ↦ rw t (neither 1001 _ _ _ (λ z. omega arith) (high 1001 (omega arith)))
   ]
-  act_agrees h (Shows n) ks = h ts _ n
-  act_agrees h Done ks = ((λ _. (refl, refl)), λ w z. absurd (omega (arith, (three_up w).0)))
-  act_agrees h (Refused e) ks = refused_agrees e ks
+  act_agrees h (Ok (Shows n)) ks = h ts _ n
+  act_agrees h (Ok Done) ks = ((λ _. (refl, refl)), λ w z. absurd (omega (arith, (three_up w).0)))
+  act_agrees h (Err e) ks = refused_agrees e ks
 
 stepped_fits : (m : List ℕ) (ev : Event) (out : List ℕ) → length m ≡ 524288 → 8192 ≤ length out →
     stepped m ev out ≡ record { act = (answer m ev).act; memory = (answer m ev).memory; out = fronted (answer m ev).numbers out }

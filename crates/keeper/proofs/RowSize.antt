@@ -8,7 +8,7 @@ use Rattle.row.specs.Lookup.{bucket, followed, entry, sought, found, entered, wi
 use Rattle.row.specs.Moves.{Outcome, room, slot_for, taken, arrived, came, shifted, last, closed, gone}
 use Rattle.keeper.specs.Promise.{all_small}
 use Rattle.keeper.specs.Sized.{KeepsSize}
-use Rattle.keeper.proofs.Size.{given_holds, small_cell, size_same, size_then, size_written, size_cond}
+use Rattle.keeper.proofs.Size.{given_holds, small_cell, size_same, size_then, size_written, cond_holds}
 
 abbrev Any : {X : Type 0} → Option X → Type 0
 Any o = Unit {0}
@@ -48,7 +48,7 @@ size_entered m s k l u =
 size_taken : (m : List ℕ) (p : ℕ) → p < 8192 → KeepsSize m (taken m p)
 unfolding taken
 size_taken m p l =
-    size_cond m m _ _ (size_same m) (size_written m _ tally 1 (p + 1) (λ _. omega arith) (size_written m m slots p p (λ _. omega arith) (size_same m)))
+    cond_holds (KeepsSize m) _ m _ (size_same m) (size_written m _ tally 1 (p + 1) (λ _. omega arith) (size_written m m slots p p (λ _. omega arith) (size_same m)))
 
 slot_below : (m : List ℕ) (p : ℕ) → p < 8192 → slot_for m p < 8192
 unfolding slot_for

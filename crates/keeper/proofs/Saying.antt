@@ -1,5 +1,5 @@
 -- A step of the engine, by what is said.
-use Rattle.std.proofs.Common.{◌≡◌, ℕ, ◌<◌, ◌≤◌, true, ◌≢◌, List, [], Some, ap, ◌∙◌, arith}
+use Rattle.std.proofs.Common.{◌≡◌, ℕ, ◌<◌, ◌≤◌, true, ◌≢◌, List, [], Some, Ok, Err, ap, ◌∙◌, arith}
 use Rattle.std.proofs.lemmas.Bool.{eq-eqb, ne_eqb}
 use Rattle.row.specs.declared.board.Command.{Command}
 use Rattle.row.specs.declared.board.Refusal.{Refusal}
@@ -8,7 +8,7 @@ use Rattle.row.specs.Board.{Board}
 use Rattle.row.specs.Commands.{number, refusal}
 use Rattle.keeper.specs.declared.event.Event.TheVariants.{Said, Next}
 use Rattle.keeper.specs.declared.event.Reason.TheVariants.{Board as ByBoard}
-use Rattle.keeper.specs.declared.event.Act.TheVariants.{Done, Refused}
+use Rattle.keeper.specs.declared.event.Act.TheVariants.{Done}
 use Rattle.keeper.specs.Engine.{Step, action_of, run_of, ran}
 use Rattle.keeper.specs.Promise.{small_command}
 use Rattle.keeper.specs.Answers.{Answer, quiet, ends, refuses, pending, leaves_pending}
@@ -28,16 +28,16 @@ step_said m c a i sm e = guarded_said steps m c _ sm (ap step_of (answer_said m 
 pub step_next : (m : List ℕ) (a : Answer) → went_on m ≡ a → own.step m Next ≡ step_of a
 step_next m a e = guarded_next steps m _ (ap step_of (answer_next m ∙ e))
 
-pub went_done : (m : List ℕ) → pending m ≡ 1 → went_on m ≡ quiet (ends Done (leaves_pending m 0))
+pub went_done : (m : List ℕ) → pending m ≡ 1 → went_on m ≡ quiet (ends (Ok Done) (leaves_pending m 0))
 unfolding went_on
 went_done m e = rw (ne_eqb (pending m) 3 (λ z. omega arith), eq-eqb (pending m) 1 e)
 
-pub went_round : (m : List ℕ) → pending m ≡ 2 → went_on m ≡ quiet (ends (Refused (ByBoard Cycle)) (leaves_pending m 0))
+pub went_round : (m : List ℕ) → pending m ≡ 2 → went_on m ≡ quiet (ends (Err (ByBoard Cycle)) (leaves_pending m 0))
 unfolding went_on
 went_round m e = rw (ne_eqb (pending m) 3 (λ z. omega arith), ne_eqb (pending m) 1 (λ z. omega arith), eq-eqb (pending m) 2 e)
 
 -- done, or refused, at once
-pub run_done : (m m₁ : List ℕ) (c : Command) → pending m ≡ 0 → small_command c ≡ true → said m c ≡ quiet (ends Done m₁) → run_of 3 own m c ≡ ran m₁ [] [] 0
+pub run_done : (m m₁ : List ℕ) (c : Command) → pending m ≡ 0 → small_command c ≡ true → said m c ≡ quiet (ends (Ok Done) m₁) → run_of 3 own m c ≡ ran m₁ [] [] 0
 run_done m m₁ c i sm e = done_at_once own m m₁ (Said c) (step_said m c _ i sm e)
 
 pub number_fits : (w : Refusal) → (1 ≤ number w) × (number w < 1000)

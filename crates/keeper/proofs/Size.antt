@@ -1,6 +1,6 @@
 -- Memory keeps its length, and its numbers stay below 2^64, through bounded writes; and answers fit what carries them.
-use Rattle.std.proofs.Common.{◌≡◌, ℕ, zero, suc, ◌+◌, ◌<◌, ◌≤◌, Bool, true, false, cond, ltb, List, [], ◌∷◌, map, length, get_or, take, set, Some, None, Option, refl, ◌∙◌, inl, inr, arith}
-use Rattle.std.proofs.lemmas.Bool.{cases_Bool, and_parts, and_from, lt-ltb, ltb-true, le-leb}
+use Rattle.std.proofs.Common.{◌≡◌, ℕ, zero, suc, ◌+◌, ◌<◌, ◌≤◌, Bool, true, cond, ltb, List, [], ◌∷◌, map, length, get_or, take, set, Some, None, Option, refl, ◌∙◌, inl, inr, arith}
+use Rattle.std.proofs.lemmas.Bool.{cases_Bool, cond_both, and_parts, and_from, lt-ltb, ltb-true, le-leb}
 use Rattle.row.specs.declared.board.Command.{Command}
 use Rattle.row.specs.declared.column.Column.{Column}
 use Rattle.row.specs.Lists.{every}
@@ -65,9 +65,9 @@ size_then m m₁ m₂ a b = (b.0 ∙ a.0, λ h. b.1 (a.1 h))
 pub size_written : (m m₁ : List ℕ) (c : Column) (i v : ℕ) → (all_small m ≡ true → v < 18446744073709551616) → KeepsSize m m₁ → KeepsSize m (written m₁ c i v)
 size_written m m₁ c i v l b = (length_written m₁ c i v ∙ b.0, λ h. small_written m₁ c i v (l h) (b.1 h))
 
-pub size_cond : (m a b : List ℕ) (t : Bool) → KeepsSize m a → KeepsSize m b → KeepsSize m (cond t a b)
-size_cond m a b true p q = p
-size_cond m a b false p q = q
+-- what holds of one and of the other, holds of the one that a test picks
+pub cond_holds : {Y : Type 0} (B : Y → Type 0) (t : Bool) (a b : Y) → B a → B b → B (cond t a b)
+cond_holds B t a b p q = cond_both t a b B (λ _. p) (λ _. q)
 
 -- what holds of an answer that goes by a look-up
 pub given_holds : {X Y : Type 0} (A : Option X → Type 0) (B : Y → Type 0) (o : Option X) (z : Y) (f : X → Y) → A o → B z → ((x : X) → A (Some x) → B (f x)) →

@@ -1,45 +1,71 @@
 -- Answers of the keeper.
 --
 --   Answer           what a step answers, the memory after it, and the numbers told or shown
---   Ended            the same, where none are
+--   Gives a out      what is answered is the answer a: the act or the reason, the memory after it, and the numbers at the front of the output
+--   Ended            an answer with no numbers; Ends: what is answered is that
 --   quiet e          such an answer
---   ends a m         the act a and the memory m
+--   ends a m         the act or reason a and the memory m
 --   refuses m e      refused by the board
 --   pending m        what is still to come of the last command: 0 nothing, 1 that it's done, 2 that it's refused, since it would go round,
 --                    3 more of the row
 --   leaves_pending   the memory with something still to come
+--   still_to_come m  what is, by its name; noted: the memory with that noted
 --   by_result        one or another, by an operation's result
-use Rattle.std.specs.Prelude.{ℕ, List, [], Ok, Err, Result}
+use Rattle.std.specs.Prelude.{◌≡◌, ℕ, cond, List, [], ◌++◌, length, drop, Some, None, Option, Ok, Err, Result, ◌==◌}
 use Rattle.row.specs.declared.board.Refusal.{Refusal}
 use Rattle.row.specs.Columns.{cell, written}
 use Rattle.row.specs.Layout.{tally}
 use Rattle.keeper.specs.declared.event.Reason.TheVariants.{Board}
 use Rattle.keeper.specs.declared.event.Act.{Act}
-use Rattle.keeper.specs.declared.event.Act.TheVariants.{Refused}
+use Rattle.keeper.specs.declared.event.Reason.{Reason}
+use Rattle.keeper.specs.declared.pending.Pending.{Pending}
+use Rattle.keeper.specs.declared.pending.Pending.TheVariants.{Nothing, Done, Round, More}
 
 pub record Answer : Type 0 where
-  pub act : Act
+  pub act : Result Act Reason
   pub memory : List ℕ
   pub numbers : List ℕ
 
 pub record Ended : Type 0 where
-  pub act : Act
+  pub act : Result Act Reason
   pub memory : List ℕ
+
+pub record Gives (a : Answer) (out₀ : List ℕ) (r : Result Act Reason) (m₁ out₁ : List ℕ) : Type 0 where
+  pub act : r ≡ a.act
+  pub after : m₁ ≡ a.memory
+  pub out : out₁ ≡ a.numbers ++ drop (length a.numbers) out₀
+
+pub record Ends (e : Ended) (r : Result Act Reason) (m₁ : List ℕ) : Type 0 where
+  pub act : r ≡ e.act
+  pub after : m₁ ≡ e.memory
 
 abbrev pub quiet : Ended → Answer
 quiet e = record { act = e.act; memory = e.memory; numbers = [] }
 
-abbrev pub ends : Act → List ℕ → Ended
+abbrev pub ends : Result Act Reason → List ℕ → Ended
 ends a m = record { act = a; memory = m }
 
 abbrev pub refuses : List ℕ → Refusal → Ended
-refuses m e = ends (Refused (Board e)) m
+refuses m e = ends (Err (Board e)) m
 
 abbrev pub pending : List ℕ → ℕ
 pending m = cell m tally 4
 
 abbrev pub leaves_pending : List ℕ → ℕ → List ℕ
 leaves_pending m k = written m tally 4 k
+
+unfoldable pub still_to_come : List ℕ → Option Pending
+still_to_come m =
+    cond (pending m == 0) (Some Nothing)
+    (cond (pending m == 1) (Some Done)
+    (cond (pending m == 2) (Some Round)
+    (cond (pending m == 3) (Some (More (cell m tally 5) (cell m tally 6))) None)))
+
+abbrev pub noted : List ℕ → Pending → List ℕ
+noted m Nothing = leaves_pending m 0
+noted m Done = leaves_pending m 1
+noted m Round = leaves_pending m 2
+noted m (More i j) = written (written (leaves_pending m 3) tally 5 i) tally 6 j
 
 abbrev pub by_result : {X : Type 0} → Result ℕ Refusal → (ℕ → X) → (Refusal → X) → X
 by_result (Ok s) f g = f s

@@ -1,7 +1,7 @@
 -- What an engine is, and how a command runs on it. These are definitions: nothing is assumed.
 --   reason_number e   the number by which a reason is told
 --   Action            what an engine answers: it tells cards from a place on, it shows numbers, the command is done, or it is refused by a number
---   action_of a out   what an Act of the code means, together with the numbers in the lent output
+--   action_of a out   what an answer of the code means, an act or a reason, together with the numbers in the lent output
 --   Step              the memory after one step, and the answer
 --   Engine            the memory at the start, and the step
 --   Ran               how a command went: the memory then, all that was told, all that was shown, and how it ended
@@ -9,7 +9,7 @@
 --   one_act           what comes of one answer: go on, or be at the end; to tell more than 4,096 cards at once is a fault, and so is a refusal by 0
 --   runs n            an event and what comes of it, in at most n steps
 --   run_of n e m c    how the command c goes on the engine e from the memory m on, in at most n steps
-use Rattle.std.specs.Prelude.{ℕ, zero, suc, cond, ◌&&◌, List, [], ◌∷◌, ◌++◌, length, take, nat_le, nat_lt}
+use Rattle.std.specs.Prelude.{ℕ, zero, suc, cond, ◌&&◌, List, [], ◌∷◌, ◌++◌, length, take, Result, Ok, Err, nat_le, nat_lt}
 use Rattle.row.specs.declared.board.Command.{Command}
 use Rattle.row.specs.Commands.{number, Told}
 use Rattle.keeper.specs.declared.event.Event.{Event}
@@ -17,7 +17,7 @@ use Rattle.keeper.specs.declared.event.Event.TheVariants.{Said, Next}
 use Rattle.keeper.specs.declared.event.Reason.{Reason}
 use Rattle.keeper.specs.declared.event.Reason.TheVariants.{Unfit, Idle, Busy, Board}
 use Rattle.keeper.specs.declared.event.Act.{Act}
-use Rattle.keeper.specs.declared.event.Act.TheVariants.{Tells, Shows, Done, Refused}
+use Rattle.keeper.specs.declared.event.Act.TheVariants.{Tells, Shows, Done}
 
 abbrev pub reason_number : Reason → ℕ
 reason_number Unfit = 0
@@ -31,11 +31,11 @@ pub data Action : Type 0 where
   done : Action
   refused : ℕ → Action
 
-abbrev pub action_of : Act → List ℕ → Action
-action_of (Tells p n) out = tells p (take n out)
-action_of (Shows n) out = shows (take n out)
-action_of Done out = done
-action_of (Refused e) out = refused (reason_number e)
+abbrev pub action_of : Result Act Reason → List ℕ → Action
+action_of (Ok (Tells p n)) out = tells p (take n out)
+action_of (Ok (Shows n)) out = shows (take n out)
+action_of (Ok Done) out = done
+action_of (Err e) out = refused (reason_number e)
 
 pub record Step : Type 0 where
   pub memory : List ℕ

@@ -5,7 +5,7 @@
 --   put_in m x         a link between slots put in, if there's room
 --   shown_itself m k   a card before itself: it is the way alone
 --   linked m l         a link made
-use Rattle.std.specs.Prelude.{ℕ, cond, List, [], ◌∷◌, Some, None, Option, ◌==◌, nat_le, nat_lt}
+use Rattle.std.specs.Prelude.{ℕ, cond, List, [], ◌∷◌, Some, None, Option, Ok, ◌==◌, nat_le, nat_lt}
 use Rattle.row.specs.declared.board.Link.{Link}
 use Rattle.row.specs.declared.board.Refusal.TheVariants.{Missing, Exists, Full}
 use Rattle.row.specs.Board.{◌⟶◌}
@@ -26,13 +26,13 @@ slots_found m l = given (found m l.from) None (λ a. given (found m l.to) None (
 unfoldable pub unlinked : List ℕ → Link → Ended
 unlinked m l =
     given (slots_found m l) (refuses m Missing) (λ x.
-    by_result (removed m x).answer (λ e. ends Done (removed m x).memory) (λ e. refuses (removed m x).memory Missing))
+    by_result (removed m x).answer (λ e. ends (Ok Done) (removed m x).memory) (λ e. refuses (removed m x).memory Missing))
 
 unfoldable pub put_in : List ℕ → Link → Ended
-put_in m x = cond (nat_le 65536 (live m)) (refuses m Full) (ends Done (inserted m x))
+put_in m x = cond (nat_le 65536 (live m)) (refuses m Full) (ends (Ok Done) (inserted m x))
 
 abbrev pub shown_itself : List ℕ → ℕ → Answer
-shown_itself m k = record { act = Shows 1; memory = leaves_pending m 2; numbers = k ∷ [] }
+shown_itself m k = record { act = Ok (Shows 1); memory = leaves_pending m 2; numbers = k ∷ [] }
 
 unfoldable pub linked : List ℕ → Link → Answer
 linked m l =

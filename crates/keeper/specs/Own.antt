@@ -11,7 +11,7 @@
 --   step_fits        the memory has the engine's length, and the output room for 8,192 numbers
 --   StepSays         what the function `step` promises: it takes the engine's step, and tells its answer by the act and the front of the output; where
 --                    the memory or the output doesn't fit, nothing is changed
-use Rattle.std.specs.Prelude.{◌≡◌, ℕ, Bool, true, false, cond, ◌&&◌, List, [], ◌∷◌, ◌++◌, length, drop, replicate, Result, ◌==◌, nat_le}
+use Rattle.std.specs.Prelude.{◌≡◌, ℕ, Bool, true, false, cond, ◌&&◌, List, [], ◌∷◌, ◌++◌, length, drop, replicate, Result, Ok, Err, ◌==◌, nat_le}
 use Rattle.row.specs.declared.board.Command.{Command}
 use Rattle.row.specs.declared.board.Command.TheVariants.{Comes, Goes, Link as Links, Unlink as Unlinks, Places}
 use Rattle.row.specs.declared.board.Refusal.{Refusal}
@@ -23,9 +23,10 @@ use Rattle.row.specs.Moves.{came, gone, place_found}
 use Rattle.links.specs.Removing.{removed_all}
 use Rattle.keeper.specs.declared.event.Event.{Event}
 use Rattle.keeper.specs.declared.event.Event.TheVariants.{Said, Next}
+use Rattle.keeper.specs.declared.event.Reason.{Reason}
 use Rattle.keeper.specs.declared.event.Reason.TheVariants.{Unfit, Idle, Busy, Board}
 use Rattle.keeper.specs.declared.event.Act.{Act}
-use Rattle.keeper.specs.declared.event.Act.TheVariants.{Shows, Done, Refused}
+use Rattle.keeper.specs.declared.event.Act.TheVariants.{Shows, Done}
 use Rattle.keeper.specs.Engine.{action_of, Step, Engine}
 use Rattle.keeper.specs.Sized.{small_event, guarded}
 use Rattle.keeper.specs.Answers.{Answer, Ended, quiet, ends, refuses, pending, leaves_pending, by_result}
@@ -33,16 +34,16 @@ use Rattle.keeper.specs.Telling.{told_part}
 use Rattle.keeper.specs.Linking.{linked, unlinked}
 
 abbrev pub ended : Result ℕ Refusal → List ℕ → Ended
-ended o m = by_result o (λ s. ends Done m) (λ e. refuses m e)
+ended o m = by_result o (λ s. ends (Ok Done) m) (λ e. refuses m e)
 
 abbrev pub left : List ℕ → ℕ → Ended
-left m k = by_result (gone m k).answer (λ s. ends Done (removed_all (gone m k).memory s)) (λ e. refuses (gone m k).memory e)
+left m k = by_result (gone m k).answer (λ s. ends (Ok Done) (removed_all (gone m k).memory s)) (λ e. refuses (gone m k).memory e)
 
 abbrev pub shown_places : List ℕ → ℕ → ℕ → Answer
 shown_places m a b =
     given (place_found m a) (quiet (refuses m Missing)) (λ p.
     given (place_found m b) (quiet (refuses m Missing)) (λ q.
-    record { act = Shows 2; memory = leaves_pending m 1; numbers = p ∷ q ∷ [] }))
+    record { act = Ok (Shows 2); memory = leaves_pending m 1; numbers = p ∷ q ∷ [] }))
 
 unfoldable pub said : List ℕ → Command → Answer
 said m (Comes k) = quiet (ended (came m k).answer (came m k).memory)
@@ -53,13 +54,13 @@ said m (Places a b) = shown_places m a b
 
 abbrev pub finished : List ℕ → Ended
 finished m =
-    ends (cond (pending m == 1) Done (cond (pending m == 2) (Refused (Board Cycle)) (Refused Idle))) (leaves_pending m 0)
+    ends (cond (pending m == 1) (Ok Done) (cond (pending m == 2) (Err (Board Cycle)) (Err Idle))) (leaves_pending m 0)
 
 unfoldable pub went_on : List ℕ → Answer
 went_on m = cond (pending m == 3) (told_part m (cell m tally 5) (cell m tally 6)) (quiet (finished m))
 
 unfoldable pub answer : List ℕ → Event → Answer
-answer m (Said c) = cond (pending m == 0) (said m c) (quiet (ends (Refused Busy) m))
+answer m (Said c) = cond (pending m == 0) (said m c) (quiet (ends (Err Busy) m))
 answer m Next = went_on m
 
 abbrev pub steps : List ℕ → Event → Step
@@ -72,21 +73,21 @@ abbrev pub step_fits : List ℕ → List ℕ → Bool
 step_fits m out = length m == 524288 && nat_le 8192 (length out)
 
 -- the engine's step, told: the act with the numbers is its action, and the numbers stand at the front of the output
-pub record Taken (m : List ℕ) (ev : Event) (out : List ℕ) (r : Act) (m₁ out₁ : List ℕ) : Type 0 where
+pub record Taken (m : List ℕ) (ev : Event) (out : List ℕ) (r : Result Act Reason) (m₁ out₁ : List ℕ) : Type 0 where
   pub act : r ≡ (answer m ev).act
   pub memory : m₁ ≡ (answer m ev).memory
   pub told : out₁ ≡ (answer m ev).numbers ++ drop (length (answer m ev).numbers) out
   pub own_step : small_event ev ≡ true → own.step m ev ≡ record { memory = m₁; action = action_of r (answer m ev).numbers }
 
 -- nothing changed
-pub record Untaken (m out : List ℕ) (r : Act) (m₁ out₁ : List ℕ) : Type 0 where
-  pub act : r ≡ Refused Unfit
+pub record Untaken (m out : List ℕ) (r : Result Act Reason) (m₁ out₁ : List ℕ) : Type 0 where
+  pub act : r ≡ Err Unfit
   pub memory : m₁ ≡ m
   pub told : out₁ ≡ out
 
-unfoldable pub StepBy : Bool → List ℕ → Event → List ℕ → Act → List ℕ → List ℕ → Type 0
+unfoldable pub StepBy : Bool → List ℕ → Event → List ℕ → Result Act Reason → List ℕ → List ℕ → Type 0
 StepBy true m ev out r m₁ out₁ = Taken m ev out r m₁ out₁
 StepBy false m ev out r m₁ out₁ = Untaken m out r m₁ out₁
 
-abbrev pub StepSays : List ℕ → Event → List ℕ → Act → List ℕ → List ℕ → Type 0
+abbrev pub StepSays : List ℕ → Event → List ℕ → Result Act Reason → List ℕ → List ℕ → Type 0
 StepSays m ev out r m₁ out₁ = StepBy (step_fits m out) m ev out r m₁ out₁

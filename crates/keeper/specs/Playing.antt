@@ -5,16 +5,19 @@
 --   stepped m ev out   a step on memory and output: the engine's, told at the front of the output; where the memory or the output doesn't fit, refused,
 --                      and nothing is changed
 --   Ending             how a command went: what is answered of it, the memory and the output after it
+--   Went e             what came of it is the ending e
 --   by_act go          what comes of one answer: go on, or be at the end; what is told is passed over, and of what is shown the count is noted
 --   plays n            an event and what comes of it, in at most n steps; if they aren't enough, it is refused
+--   played_on n        an answer and what comes of it, in at most n more steps
 --   played m c out     the command c, in at most three steps
-use Rattle.std.specs.Prelude.{ℕ, zero, suc, cond, List, ◌++◌, length, drop, Some, None}
+use Rattle.std.specs.Prelude.{◌≡◌, ℕ, zero, suc, cond, List, ◌++◌, length, drop, Some, None, Ok, Err, Result}
 use Rattle.row.specs.declared.board.Command.{Command}
 use Rattle.keeper.specs.declared.event.Event.{Event}
 use Rattle.keeper.specs.declared.event.Event.TheVariants.{Said, Next}
+use Rattle.keeper.specs.declared.event.Reason.{Reason}
 use Rattle.keeper.specs.declared.event.Reason.TheVariants.{Unfit, Busy}
 use Rattle.keeper.specs.declared.event.Act.{Act}
-use Rattle.keeper.specs.declared.event.Act.TheVariants.{Tells, Shows, Done, Refused}
+use Rattle.keeper.specs.declared.event.Act.TheVariants.{Tells, Shows, Done}
 use Rattle.keeper.specs.declared.playing.Played.{Played}
 use Rattle.keeper.specs.Own.{answer, step_fits}
 
@@ -22,30 +25,38 @@ abbrev pub fronted : List ℕ → List ℕ → List ℕ
 fronted ks out = ks ++ drop (length ks) out
 
 pub record Stepped : Type 0 where
-  pub act : Act
+  pub act : Result Act Reason
   pub memory : List ℕ
   pub out : List ℕ
 
 unfoldable pub stepped : List ℕ → Event → List ℕ → Stepped
 stepped m ev out =
     cond (step_fits m out) (record { act = (answer m ev).act; memory = (answer m ev).memory; out = fronted (answer m ev).numbers out })
-    (record { act = Refused Unfit; memory = m; out = out })
+    (record { act = Err Unfit; memory = m; out = out })
 
 pub record Ending : Type 0 where
   pub answer : Played
   pub memory : List ℕ
   pub out : List ℕ
 
-unfoldable pub by_act : (List ℕ → List ℕ → ℕ → Ending) → List ℕ → List ℕ → ℕ → Act → Ending
-by_act go m out s (Tells p n) = go m out s
-by_act go m out s (Shows n) = go m out n
-by_act go m out s Done = record { answer = record { shown = s; refused = None }; memory = m; out = out }
-by_act go m out s (Refused e) = record { answer = record { shown = s; refused = Some e }; memory = m; out = out }
+pub record Went (e : Ending) (r : Played) (m₁ out₁ : List ℕ) : Type 0 where
+  pub answer : r ≡ e.answer
+  pub after : m₁ ≡ e.memory
+  pub told : out₁ ≡ e.out
+
+unfoldable pub by_act : (List ℕ → List ℕ → ℕ → Ending) → List ℕ → List ℕ → ℕ → Result Act Reason → Ending
+by_act go m out s (Ok (Tells p n)) = go m out s
+by_act go m out s (Ok (Shows n)) = go m out n
+by_act go m out s (Ok Done) = record { answer = record { shown = s; refused = None }; memory = m; out = out }
+by_act go m out s (Err e) = record { answer = record { shown = s; refused = Some e }; memory = m; out = out }
 
 unfoldable pub plays : ℕ → List ℕ → Event → List ℕ → ℕ → Ending
 plays zero m ev out s = record { answer = record { shown = s; refused = Some Busy }; memory = m; out = out }
 plays (suc n) m ev out s =
     by_act (λ m₁ out₁ s₁. plays n m₁ Next out₁ s₁) (stepped m ev out).memory (stepped m ev out).out s (stepped m ev out).act
+
+abbrev pub played_on : ℕ → List ℕ → Result Act Reason → List ℕ → ℕ → Ending
+played_on n m a out s = by_act (λ m₁ out₁ s₁. plays n m₁ Next out₁ s₁) m out s a
 
 abbrev pub played : List ℕ → Command → List ℕ → Ending
 played m c out = plays 3 m (Said c) out 0

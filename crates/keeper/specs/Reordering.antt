@@ -3,7 +3,7 @@
 --   shown_round m x y   the way by which the link x between slots would go round is shown, after the searches met at the link y
 --   moved m x i j       the link x is put in, with the row settled for it, and the part of the row from the place i to j is told
 --   reordered m x       one or the other, by what the search finds
-use Rattle.std.specs.Prelude.{ℕ, ◌+◌, min, cond, List, map, length, nat_le}
+use Rattle.std.specs.Prelude.{ℕ, ◌+◌, min, cond, List, map, length, Ok, nat_le}
 use Rattle.row.specs.declared.board.Link.{Link}
 use Rattle.row.specs.declared.board.Refusal.TheVariants.{Full}
 use Rattle.row.specs.Columns.{cell}
@@ -24,7 +24,7 @@ round_cards m x y = map (cell m ids) (way (cell m via) 8192 x y)
 
 unfoldable pub shown_round : List ℕ → Link → Link → Answer
 shown_round m x y =
-    record { act = Shows (length (round_cards m x y)); memory = leaves_pending (forgotten m) 2; numbers = round_cards m x y }
+    record { act = Ok (Shows (length (round_cards m x y))); memory = leaves_pending (forgotten m) 2; numbers = round_cards m x y }
 
 unfoldable pub moved : List ℕ → Link → ℕ → ℕ → Answer
 moved m x i j =

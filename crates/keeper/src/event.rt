@@ -1,11 +1,12 @@
 // What the keeper is told, and what it answers.
 ghost use Rattle.std.specs.Prelude.{◌≡◌};
+ghost use Rattle.keeper.specs.declared.event.Reason.TheVariants.{Board};
 ghost use Rattle.keeper.specs.Engine.{reason_number};
 
 use row::{Command, Refusal};
 
 // A command is said, or the keeper is to go on with the last one.
-#[derive(Clone, Copy)]
+#[derive(Clone, Copy, Debug, PartialEq, Eq)]
 pub enum Event {
     Said(Command),
     Next,
@@ -13,7 +14,7 @@ pub enum Event {
 
 // Why nothing is done: what was said or lent doesn't fit, there is nothing to go on with, the last command isn't at its end, or the board refuses the
 // command.
-#[derive(Clone, Copy)]
+#[derive(Clone, Copy, Debug, PartialEq, Eq)]
 pub enum Reason {
     Unfit,
     Idle,
@@ -21,12 +22,20 @@ pub enum Reason {
     Board(Refusal),
 }
 
-impl Reason {
-    // The number by which a reason is told.
-    pub fn number(self) -> u64
-        ensures { result ≡ reason_number self }
-    {
-        match self {
+impl From<Refusal> for Reason {
+    ghost from_gives = { λ why reason. reason ≡ Board why };
+
+    fn from(why: Refusal) -> Reason {
+        Reason::Board(why)
+    }
+}
+
+// The number by which a reason is told.
+impl From<Reason> for u64 {
+    ghost from_gives = { λ reason n. n ≡ reason_number reason };
+
+    fn from(reason: Reason) -> u64 {
+        match reason {
             Reason::Unfit => 0,
             Reason::Idle => 1,
             Reason::Busy => 2,
@@ -35,12 +44,11 @@ impl Reason {
     }
 }
 
-// What the keeper answers. It tells the row: from a place on so many cards; or it shows so many numbers. The cards and the numbers stand at the front of
-// the lent output. Then the command is done, or it is refused.
-#[derive(Clone, Copy)]
+// What the keeper answers, if it doesn't refuse. It tells the row: from a place on so many cards; or it shows so many numbers. The cards and the numbers
+// stand at the front of the lent output. Then the command is done.
+#[derive(Clone, Copy, Debug, PartialEq, Eq)]
 pub enum Act {
     Tells(u64, u64),
     Shows(u64),
     Done,
-    Refused(Reason),
 }

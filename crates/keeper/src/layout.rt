@@ -5,23 +5,20 @@ pub const MEMORY: usize = 524288;
 
 pub const OUTPUT: usize = 8192;
 
+// The memory, and the front of the output, whose lengths are then known. They are lent side by side: a struct that holds both by reference hides the
+// lengths, and can't lend both to one call.
+pub(crate) type Memory = [u64; MEMORY];
+
+pub(crate) type Output = [u64; OUTPUT];
+
 // How many links there may be, and how many cards are told at once.
 pub const LINKS: u64 = 65536;
 
 pub const TOLD: u64 = 4096;
 
-// What is still to come of the last command: nothing; that it's done; that it's refused, since it would go round; or more of the row.
+// What is still to come of the last command, and the places from which on, and below which, more is to be told.
 pub const PENDING: u64 = 4;
 
-pub const NOTHING: u64 = 0;
-
-pub const DONE: u64 = 1;
-
-pub const ROUND: u64 = 2;
-
-pub const MORE: u64 = 3;
-
-// The places from which on, and below which, more is to be told.
 pub const MORE_FROM: u64 = 5;
 
 pub const MORE_TO: u64 = 6;

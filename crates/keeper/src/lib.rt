@@ -4,6 +4,7 @@
 mod event;
 mod layout;
 mod linking;
+mod pending;
 mod playing;
 mod reordering;
 mod stepping;
@@ -11,9 +12,10 @@ mod telling;
 mod theory;
 
 pub use event::{Act, Event, Reason};
-pub use layout::{LINKS, MEMORY, MORE, MORE_FROM, MORE_TO, NOTHING, OUTPUT, PENDING, ROUND};
+pub use layout::{LINKS, MEMORY, OUTPUT};
 pub use linking::slots_of;
-pub use playing::{Played, play, read_row};
+pub use pending::Pending;
+pub use playing::{Played, play, play_on, read_row};
 pub use stepping::step;
 pub use theory::{
     end_stays_stands, endless_is_not_stands, fits_stands, idle_is_not_stands, one_board_stands,

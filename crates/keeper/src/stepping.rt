@@ -1,68 +1,53 @@
 // One step of the keeper.
-ghost use Rattle.std.specs.Prelude.{◌≡◌, ◌≤◌, ◌++◌, length, drop};
+ghost use Rattle.std.specs.Prelude.{◌≡◌, Ok};
 ghost use Rattle.row.specs.Moves.{came};
-ghost use Rattle.keeper.specs.Own.{ended, left, shown_places, said, finished, went_on, own, StepSays};
+ghost use Rattle.keeper.specs.Answers.{Gives, Ends};
+ghost use Rattle.keeper.specs.Own.{ended, left, shown_places, said, went_on, answer, own, StepSays};
 ghost use Rattle.keeper.specs.Promise.{Whole};
 ghost use Rattle.keeper.specs.Sister.{WholeIn};
 ghost use Rattle.keeper.specs.Sized.{Fits};
 
 use crate::event::{Act, Event, Reason};
-use crate::layout::{DONE, MEMORY, MORE, MORE_FROM, MORE_TO, NOTHING, OUTPUT, PENDING, ROUND};
+use crate::layout::{Memory, Output};
 use crate::linking::{link, unlink};
+use crate::pending::Pending;
 use crate::telling::tell_part;
 use links::remove_all;
-use row::{Command, Refusal, TALLY, comes, goes, place_of};
+use row::{Command, Refusal, comes, goes, place_of};
 
 // A card comes.
-fn arrive(memory: &mut [u64], card: u64) -> Act
-    ensures act { result ≡ (ended (came memory.old card).answer (came memory.old card).memory).act }
-    ensures after { memory.new ≡ (ended (came memory.old card).answer (came memory.old card).memory).memory }
+fn arrive(memory: &mut [u64], card: u64) -> Result<Act, Reason>
+    ensures { Ends (ended (came memory.old card).answer (came memory.old card).memory) result memory.new }
 {
-    match comes(memory, card) {
-        Ok(_) => Act::Done,
-        Err(refusal) => Act::Refused(Reason::Board(refusal)),
-    }
+    comes(memory, card)?;
+    Ok(Act::Done)
 }
 
 // A card goes, and its links with it.
-fn leave(memory: &mut [u64], card: u64) -> Act
-    ensures act { result ≡ (left memory.old card).act }
-    ensures after { memory.new ≡ (left memory.old card).memory }
+fn leave(memory: &mut [u64], card: u64) -> Result<Act, Reason>
+    ensures { Ends (left memory.old card) result memory.new }
 {
-    match goes(memory, card) {
-        Ok(slot) => {
-            remove_all(memory, slot);
-            Act::Done
-        }
-        Err(refusal) => Act::Refused(Reason::Board(refusal)),
-    }
+    let slot = goes(memory, card)?;
+    remove_all(memory, slot);
+    Ok(Act::Done)
 }
 
 // Shows how many cards stand before each of the two.
-fn show_places(memory: &mut [u64], a: u64, b: u64, out: &mut [u64]) -> Act
-    requires { 8192 ≤ length out.old }
-    ensures act { result ≡ (shown_places memory.old a b).act }
-    ensures after { memory.new ≡ (shown_places memory.old a b).memory }
-    ensures out { out.new ≡ (shown_places memory.old a b).numbers ++ drop (length (shown_places memory.old a b).numbers) out.old }
+fn show_places(memory: &mut Memory, a: u64, b: u64, out: &mut Output) -> Result<Act, Reason>
+    ensures { Gives (shown_places memory.old a b) out.old result memory.new out.new }
 {
-    let Some(first) = place_of(memory, a) else {
-        return Act::Refused(Reason::Board(Refusal::Missing));
-    };
-    let Some(second) = place_of(memory, b) else {
-        return Act::Refused(Reason::Board(Refusal::Missing));
-    };
+    let first = place_of(memory, a).ok_or(Refusal::Missing)?;
+    let second = place_of(memory, b).ok_or(Refusal::Missing)?;
     out[0] = first;
     out[1] = second;
-    TALLY.set(memory, PENDING, DONE);
-    Act::Shows(2)
+    Pending::Done.note(memory);
+    Ok(Act::Shows(2))
 }
 
 // A command is said.
-fn say(memory: &mut [u64], command: Command, out: &mut [u64]) -> Act
-    requires { (524288 ≤ length memory.old) × (8192 ≤ length out.old) }
-    ensures act { result ≡ (said memory.old command).act }
-    ensures after { memory.new ≡ (said memory.old command).memory }
-    ensures out { out.new ≡ (said memory.old command).numbers ++ drop (length (said memory.old command).numbers) out.old }
+#[tactic(auto, unfolding(crate::specs::Own::said))]
+fn say(memory: &mut Memory, command: Command, out: &mut Output) -> Result<Act, Reason>
+    ensures { Gives (said memory.old command) out.old result memory.new out.new }
 {
     match command {
         Command::Comes(card) => arrive(memory, card),
@@ -73,53 +58,48 @@ fn say(memory: &mut [u64], command: Command, out: &mut [u64]) -> Act
     }
 }
 
-// The end of the last command.
-fn finish(memory: &mut [u64]) -> Act
-    ensures act { result ≡ (finished memory.old).act }
-    ensures after { memory.new ≡ (finished memory.old).memory }
+// Goes on with the last command: more of the row, or its end.
+#[tactic(auto, unfolding(crate::specs::Own::went_on, crate::specs::Answers::still_to_come))]
+fn go_on(memory: &mut Memory, out: &mut Output) -> Result<Act, Reason>
+    ensures { Gives (went_on memory.old) out.old result memory.new out.new }
 {
-    let pending = TALLY.get(memory, PENDING);
-    TALLY.set(memory, PENDING, NOTHING);
+    let pending = Pending::of(memory);
+    if let Some(Pending::More { from, to }) = pending {
+        return Ok(tell_part(memory, from, to, out));
+    }
+    Pending::Nothing.note(memory);
     match pending {
-        DONE => Act::Done,
-        ROUND => Act::Refused(Reason::Board(Refusal::Cycle)),
-        _ => Act::Refused(Reason::Idle),
+        Some(Pending::Done) => Ok(Act::Done),
+        Some(Pending::Round) => Err(Refusal::Cycle.into()),
+        _ => Err(Reason::Idle),
     }
 }
 
-// Goes on with the last command: more of the row, or its end.
-fn go_on(memory: &mut [u64], out: &mut [u64]) -> Act
-    requires { (524288 ≤ length memory.old) × (8192 ≤ length out.old) }
-    ensures act { result ≡ (went_on memory.old).act }
-    ensures after { memory.new ≡ (went_on memory.old).memory }
-    ensures out { out.new ≡ (went_on memory.old).numbers ++ drop (length (went_on memory.old).numbers) out.old }
+// The answer to an event.
+#[tactic(auto, unfolding(crate::specs::Own::answer, crate::specs::Answers::still_to_come))]
+fn hear(memory: &mut Memory, event: Event, out: &mut Output) -> Result<Act, Reason>
+    ensures { Gives (answer memory.old event) out.old result memory.new out.new }
 {
-    if TALLY.get(memory, PENDING) != MORE {
-        return finish(memory);
+    match event {
+        Event::Next => go_on(memory, out),
+        Event::Said(_) if Pending::of(memory) != Some(Pending::Nothing) => { Err(Reason::Busy) }
+        Event::Said(command) => say(memory, command, out),
     }
-    let from = TALLY.get(memory, MORE_FROM);
-    let to = TALLY.get(memory, MORE_TO);
-    tell_part(memory, from, to, out)
 }
 
 // One step: the answer to an event, the memory after it, and what is told or shown at the front of `out`. The engine whose steps these are meets the
 // promise, and its firmer sister within three steps; whatever stands in the memory, its answers fit.
-pub fn step(memory: &mut [u64], event: Event, out: &mut [u64]) -> Act
+pub fn step(memory: &mut [u64], event: Event, out: &mut [u64]) -> Result<Act, Reason>
     ensures says { StepSays memory.old event out.old result memory.new out.new }
     ensures whole { Whole own }
     ensures firmer { WholeIn 3 own }
     ensures fits { Fits own }
 {
-    if memory.len() != MEMORY || out.len() < OUTPUT {
-        return Act::Refused(Reason::Unfit);
-    }
-    match event {
-        Event::Next => go_on(memory, out),
-        Event::Said(command) => {
-            if TALLY.get(memory, PENDING) != NOTHING {
-                return Act::Refused(Reason::Busy);
-            }
-            say(memory, command, out)
-        }
-    }
+    let Some(memory) = memory.as_mut_array() else {
+        return Err(Reason::Unfit);
+    };
+    let Some(out) = out.first_chunk_mut() else {
+        return Err(Reason::Unfit);
+    };
+    hear(memory, event, out)
 }

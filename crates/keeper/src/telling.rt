@@ -1,30 +1,29 @@
 // The row is told, some thousand cards at a time.
-ghost use Rattle.std.specs.Prelude.{◌≡◌, ◌≤◌, ◌++◌, length, drop};
+ghost use Rattle.std.specs.Prelude.{◌≡◌, Ok};
+ghost use Rattle.keeper.specs.Answers.{Gives};
 ghost use Rattle.keeper.specs.Telling.{told_part, left_to_tell};
 
 use crate::event::Act;
-use crate::layout::{DONE, MORE, MORE_FROM, MORE_TO, PENDING, TOLD};
-use row::{CARDS, TALLY, tell};
+use crate::layout::{Memory, Output, TOLD};
+use crate::pending::Pending;
+use row::{CARDS, tell};
 
 // Notes what is still to come of a row that is told up to `from`, and is to be told up to `to`.
+#[tactic(auto, unfolding(crate::specs::Telling::left_to_tell))]
 fn note_rest(memory: &mut [u64], from: u64, to: u64)
     ensures { memory.new ≡ left_to_tell memory.old from to }
 {
-    if from < to {
-        TALLY.set(memory, PENDING, MORE);
-        TALLY.set(memory, MORE_FROM, from);
-        TALLY.set(memory, MORE_TO, to);
+    let rest = if from < to {
+        Pending::More { from, to }
     } else {
-        TALLY.set(memory, PENDING, DONE);
-    }
+        Pending::Done
+    };
+    rest.note(memory);
 }
 
 // Tells the cards from the place `from` on, below `to`, at most TOLD of them.
-pub(crate) fn tell_part(memory: &mut [u64], from: u64, to: u64, out: &mut [u64]) -> Act
-    requires { (524288 ≤ length memory.old) × (8192 ≤ length out.old) }
-    ensures act { result ≡ (told_part memory.old from to).act }
-    ensures after { memory.new ≡ (told_part memory.old from to).memory }
-    ensures out { out.new ≡ (told_part memory.old from to).numbers ++ drop (length (told_part memory.old from to).numbers) out.old }
+pub(crate) fn tell_part(memory: &mut Memory, from: u64, to: u64, out: &mut Output) -> Act
+    ensures { Gives (told_part memory.old from to) out.old (Ok result) memory.new out.new }
 {
     let first = from.min(CARDS);
     let end = to.min(CARDS);

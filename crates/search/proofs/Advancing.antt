@@ -1,10 +1,9 @@
 -- One of the two searches goes on from one card.
-use Rattle.std.proofs.Common.{◌≡◌, ℕ, ◌+◌, ◌<◌, ◌≤◌, true, ◌⊎◌, List, Some, None, Option, sym, refl, ap, ◌∙◌, inl, inr, arith}
+use Rattle.std.proofs.Common.{◌≡◌, ℕ, ◌+◌, ◌-◌, ◌<◌, ◌≤◌, true, ◌⊎◌, List, Some, None, Option, Continue, Break, ControlFlow, sym, refl, ap, ◌∙◌, inl, inr, arith}
 use Rattle.row.specs.declared.board.Link.{Link}
 use Rattle.row.specs.Board.{◌⟶◌}
 use Rattle.row.specs.Columns.{cell}
 use Rattle.row.specs.Layout.{places, slots}
-use Rattle.row.specs.Lookup.{given}
 use Rattle.row.specs.Meaning.{used}
 use Rattle.links.specs.declared.chain.Chain.{Chain}
 use Rattle.links.specs.Layout.{pointers, heads, end}
@@ -15,8 +14,8 @@ use Rattle.search.specs.declared.side.Side.{Side}
 use Rattle.search.specs.declared.side.Side.TheVariants.{Fore, Hind}
 use Rattle.search.specs.declared.hunt.Front.{Front}
 use Rattle.search.specs.Marks.{marked}
-use Rattle.search.specs.Sides.{chain_of, marks_of, other, ahead, joined}
-use Rattle.search.specs.Hunt.{Spreading, spreading, Going, moved, gone_on, part_of}
+use Rattle.search.specs.Sides.{chain_of, marks_of, other, ahead}
+use Rattle.search.specs.Hunt.{Spreading, spreading, Going, advanced, moved, gone_on, part_of}
 use Rattle.search.specs.Meaning.{Trailed}
 use Rattle.search.proofs.Potential.{entries, entries_more, weight, weight_passed, cost}
 use Rattle.search.proofs.Between.{Setting, used_below, count_below, seat_used, part_tells}
@@ -53,18 +52,16 @@ placed_same m a b was n n' d o f e h = record {
 }
 
 module _ (m : List ℕ) (a b : ℕ) (S : Setting m a b) (was : ℕ → Link) where
-  abbrev pub Tells : List ℕ → Option Link → Type 0
-  Tells n None = Unit {0}
-  Tells n (Some l) = Trailed m n a b l.from l.to
+  -- by what the search at c tells, in the memory n: where it met the other, or where it stands, further on than at c
+  abbrev pub Tells : List ℕ → Front → ControlFlow Link Front → Type 0
+  Tells n c (Break l) = Trailed m n a b l.from l.to
+  Tells n c (Continue e) =
+      (e.side ≡ c.side) × Fronted m a b was n e × ((ahead_of e.side e.cursor ≡ 0) ⊎ (ahead_of e.side e.cursor < ahead_of c.side c.cursor))
 
   pub record Gone (n : List ℕ) (c : Front) (x : Going) : Type 0 where
     pub sound : Sound m a b was x.memory
     pub same_other : (q : ℕ) → marked x.memory (marks_of (other c.side)) q ≡ marked n (marks_of (other c.side)) q
-    pub side : x.advance.front.side ≡ c.side
-    pub told : Tells x.memory x.advance.met
-    pub fronted : x.advance.met ≡ None → Fronted m a b was x.memory x.advance.front
-    pub less : (ahead_of x.advance.front.side x.advance.front.cursor ≡ 0)
-        ⊎ (ahead_of x.advance.front.side x.advance.front.cursor < ahead_of c.side c.cursor)
+    pub told : Tells x.memory c x.advance
 
   module _ (n : List ℕ) (s : Sound m a b was n) (d : Side) (p f : ℕ) (h : Placed m a b was n d (Some p) f) where
     abbrev x : ℕ
@@ -127,24 +124,22 @@ module _ (m : List ℕ) (a b : ℕ) (S : Setting m a b) (was : ℕ → Link) whe
       ]
     ]
 
-    placed_new : Covered m a b S was d x seated.0 (end n) n' → Placed m a b was n' d o y.spread.fuel
-    placed_new cov = record {
+    abbrev spent : ℕ
+    spent = entries g x (cell n (pointers c) x) + 1
+
+    placed_new : (k : ℕ) → Covered m a b S was d x seated.0 (end n) n' → f - spent ≤ k → Placed m a b was n' d o k
+    placed_new k cov l = record {
       there = λ q e. next_there d (marked n' (marks_of d)) p q (rw e at next);
       closed = closed_new cov;
-      enough = omega (arith, spread.fuel, held, pays o (λ q. passed_more d (marked n' (marks_of d)) p q o next) (passed_here d (marked n' (marks_of d)) p o next));
+      enough = omega (arith, held, pays o (λ q. passed_more d (marked n' (marks_of d)) p q o next) (passed_here d (marked n' (marks_of d)) p o next));
     }
-
-    told_new : (u : Option ℕ) → Ends m a b S was d x seated.0 (end n) n' u → Tells n' (given u None (λ t. Some (joined d x t)))
-    told_new None e = tt
-    told_new (Some t) e = trailed m a b S was n' spread.sound d x t (spread.grown.stays (cell m places x) (rw seated.1 mp)) e.0 e.1
-
-    covered_new : (u : Option ℕ) → Ends m a b S was d x seated.0 (end n) n' u → given u None (λ t. Some (joined d x t)) ≡ None
-        → Covered m a b S was d x seated.0 (end n) n'
-    covered_new None e i = e
-    covered_new (Some t) e i = absurd (let z : ◌≡◌ {A = ℕ} 0 1 = cc in omega arith)
 
     abbrev from : Front
     from = record { side = d; cursor = Some p; fuel = f }
+
+    told_new : (u : ControlFlow ℕ ℕ) → Ends m a b S was d x seated.0 (end n) n' (f - spent) u → Tells n' from (advanced from u n' p x)
+    told_new (Continue k) e = (refl, placed_new k e.0 e.1, inr (fewer d (marked n' (marks_of d)) p o p_below next))
+    told_new (Break t) e = trailed m a b S was n' spread.sound d x t (spread.grown.stays (cell m places x) (rw seated.1 mp)) e.0 e.1
 
     gone_is : gone_on n (part_of m (a ⟶ b)) from ≡ moved from y p x
     unfolding gone_on
@@ -154,16 +149,13 @@ module _ (m : List ℕ) (a b : ℕ) (S : Setting m a b) (was : ℕ → Link) whe
     gone_some = rw gone_is (record {
       sound = spread.sound;
       same_other = spread.grown.same_other;
-      side = refl;
-      told = told_new y.spread.met spread.told;
-      fronted = λ i. placed_new (covered_new y.spread.met spread.told i);
-      less = inr (fewer d (marked n' (marks_of d)) p o p_below next);
+      told = told_new y.spread spread.told;
     })
 
   gone_none : (n : List ℕ) (d : Side) (f : ℕ) → Sound m a b was n → Placed m a b was n d None f
       → Gone n (record { side = d; cursor = None; fuel = f }) (gone_on n (part_of m (a ⟶ b)) (record { side = d; cursor = None; fuel = f }))
   unfolding gone_on
-  gone_none n d f s h = record { sound = s; same_other = λ q. refl; side = refl; told = tt; fronted = λ i. h; less = inl refl }
+  gone_none n d f s h = record { sound = s; same_other = λ q. refl; told = (refl, h, inl refl) }
 
   gone_at : (n : List ℕ) (d : Side) (o : Option ℕ) (f : ℕ) → Sound m a b was n → Placed m a b was n d o f
       → Gone n (record { side = d; cursor = o; fuel = f }) (gone_on n (part_of m (a ⟶ b)) (record { side = d; cursor = o; fuel = f }))

@@ -1,12 +1,13 @@
 -- The two searches over the board of slots: what a link tells of slots and places, for both directions at once.
-use Rattle.std.proofs.Common.{◌≡◌, ℕ, ◌-◌, ◌<◌, ◌≤◌, Bool, true, ltb, leb, List, refl, ap, ◌∙◌, arith}
+use Rattle.std.proofs.Common.{◌≡◌, ℕ, ◌<◌, ◌≤◌, Bool, true, ltb, leb, List, arith}
 use Rattle.std.proofs.lemmas.Bool.{and_parts, and_from, le-leb, leb-true, ltb-true}
-use Rattle.row.specs.Lists.{has, place}
+use Rattle.row.specs.Lists.{has}
 use Rattle.row.specs.Board.{Board, leads, linked}
 use Rattle.row.specs.Columns.{cell}
 use Rattle.row.specs.Layout.{slots, places, count, fresh}
 use Rattle.row.specs.Meaning.{row_of, used}
-use Rattle.row.proofs.Tabulated.{made_has, place_made}
+use Rattle.row.proofs.Named.{place_slot}
+use Rattle.row.proofs.Tabulated.{made_has}
 use Rattle.row.proofs.Present.{slot_used, used_place}
 use Rattle.row.proofs.Climbs.{Fine, fine_parts, link_ends, link_before}
 use Rattle.row.proofs.Leading.{leads_just}
@@ -34,10 +35,6 @@ comes r Hind x y = leads r y x
 abbrev pub Beyond : Side → ℕ → ℕ → Type 0
 Beyond Fore p q = p < q
 Beyond Hind p q = q < p
-
-pub other_other : (d : Side) → other (other d) ≡ d
-other_other Fore = refl
-other_other Hind = refl
 
 -- the link that is asked for: it goes backward
 pub record Setting (m : List ℕ) (a b : ℕ) : Type 0 where
@@ -68,22 +65,12 @@ module _ (m : List ℕ) (a b : ℕ) (S : Setting m a b) where
   pub row_used : (s : ℕ) → has (row_of m) s ≡ true → used m s ≡ true
   row_used s h = let w = made_has (cell m slots) 0 (count m) s h in rw w.3 at (seat_used w.0 (omega (arith, w.2))).0
 
-  pub row_place : (s : ℕ) → used m s ≡ true → place (row_of m) s ≡ cell m places s
-  row_place s u =
-      let p = used_below s u in
-      place_made (cell m slots) 0 (count m) (cell m places s) s (omega arith) (omega (arith, p.1)) p.2
-      (λ q x y e.
-      let z = (seat_used q (omega (arith, p.1))).1 in
-      let t : cell m places (cell m slots q) ≡ cell m places s = ap (cell m places) e in
-      omega arith)
-      ∙ (let z : cell m places s - 0 ≡ cell m places s = omega arith in z)
-
   linked_tells : (x y : ℕ) → linked r x y ≡ true → (used m x ≡ true) × (used m y ≡ true) × (cell m places x < cell m places y)
   linked_tells x y h =
       let e = link_ends r fine_so x y h in
       let u = row_used x e.0 in
       let v = row_used y e.1 in
-      (u, v, omega (arith, link_before r fine_so x y h, row_place x u, row_place y v))
+      (u, v, omega (arith, link_before r fine_so x y h, place_slot m S.ready.stands x u, place_slot m S.ready.stands y v))
 
   pub arc_tells : (d : Side) (x y : ℕ) → arc r d x y ≡ true → (used m x ≡ true) × (used m y ≡ true) × Beyond d (cell m places x) (cell m places y)
   arc_tells Fore x y h = linked_tells x y h

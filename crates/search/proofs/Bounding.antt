@@ -1,5 +1,5 @@
 -- The two searches in turn, to their end.
-use Rattle.std.proofs.Common.{◌≡◌, ℕ, zero, suc, ◌*◌, ◌<◌, ◌≤◌, true, false, ◌&&◌, ◌⊎◌, List, Some, None, Option, sym, refl, ap, ◌∙◌, inl, inr, arith}
+use Rattle.std.proofs.Common.{◌≡◌, ℕ, zero, suc, ◌*◌, ◌<◌, ◌≤◌, true, false, ◌&&◌, ◌⊎◌, List, Some, None, Option, Continue, Break, ControlFlow, sym, refl, ap, ◌∙◌, inl, inr, arith}
 use Rattle.std.proofs.lemmas.Bool.{and_parts, both_ways, cond_both}
 use Rattle.row.specs.declared.board.Link.{Link}
 use Rattle.row.specs.Board.{◌⟶◌}
@@ -10,7 +10,7 @@ use Rattle.search.specs.declared.hunt.Part.{Part}
 use Rattle.search.specs.declared.hunt.Front.{Front}
 use Rattle.search.specs.Marks.{marked}
 use Rattle.search.specs.Sides.{marks_of, other}
-use Rattle.search.specs.Hunt.{gone_on, idle, Met, met_with, hunted, part_of}
+use Rattle.search.specs.Hunt.{gone_on, idle, Met, met_with, hunt_on, hunted, part_of}
 use Rattle.search.specs.Meaning.{Parted}
 use Rattle.search.specs.HuntLaws.{Found}
 use Rattle.search.proofs.Between.{Setting, count_below, part_tells}
@@ -53,9 +53,10 @@ module _ (m : List ℕ) (a b : ℕ) (S : Setting m a b) (was : ℕ → Link) whe
   abbrev Right : Met → Type 0
   Right x = Found m x.memory a b x.answer
 
-  by_answer : (n : List ℕ) (rest : Met) (u : Option Link) → Tells m a b S was n u → (u ≡ None → Right rest) → Right (given u rest (λ l. met_with (Some l) n))
-  by_answer n rest None t h = h refl
-  by_answer n rest (Some l) t h = t
+  by_answer : (n : List ℕ) (c : Front) (u : ControlFlow Link Front) (k : Front → Met) → Tells m a b S was n c u
+      → ((e : Front) → Tells m a b S was n c (Continue e) → Right (k e)) → Right (hunt_on u n k)
+  by_answer n c (Break l) k t h = t
+  by_answer n c (Continue e) k t h = h e t
 
   two_sides : (d e f : Side) → e ≡ other d → f ≡ d → f ≡ other e
   two_sides Fore e f p q = q ∙ ap other (sym p)
@@ -76,12 +77,12 @@ module _ (m : List ℕ) (a b : ℕ) (S : Setting m a b) (was : ℕ → Link) whe
   hunts (suc f) n c e s o hc he lc le =
       let x = gone_on n w c in
       let G = goes m a b S was n c s hc in
-      let rest = hunted f x.memory w e x.advance.front in
-      cond_both (idle c && idle e) (met_with None n) (given x.advance.met rest (λ l. met_with (Some l) x.memory)) Right
+      let rest : Front → Met = λ k. hunted f x.memory w e k in
+      cond_both (idle c && idle e) (met_with None n) (hunt_on x.advance x.memory rest) Right
       (λ i.
       let p = and_parts (idle c) (idle e) i in
       both_done n s c e o hc he (idle_none c.cursor p.0) (idle_none e.cursor p.1))
-      (λ _. by_answer x.memory rest x.advance.met G.told (λ i.
-      hunts f x.memory e x.advance.front G.sound (two_sides c.side e.side x.advance.front.side o G.side)
-      (placed_same m a b was n x.memory e.side e.cursor e.fuel (rw o G.same_other) he) (G.fronted i)
-      (omega arith) (fewer_turns f (turns x.advance.front) (turns c) lc G.less)))
+      (λ _. by_answer x.memory c x.advance rest G.told (λ k t.
+      hunts f x.memory e k G.sound (two_sides c.side e.side k.side o t.0)
+      (placed_same m a b was n x.memory e.side e.cursor e.fuel (rw o G.same_other) he) t.1
+      (omega arith) (fewer_turns f (turns k) (turns c) lc t.2)))

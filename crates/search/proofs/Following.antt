@@ -1,5 +1,5 @@
 -- The steps of the loop that writes a trail, and how many slots a trail has.
-use Rattle.std.proofs.Common.{◌≡◌, ℕ, zero, suc, ◌+◌, ◌-◌, ◌<◌, ◌≤◌, cond, eqb, List, [], ◌∷◌, ◌++◌, map, length, get_or, take, drop, set, sym, refl, ap, ◌∙◌, arith, length-drop}
+use Rattle.std.proofs.Common.{◌≡◌, ℕ, zero, suc, ◌+◌, ◌-◌, ◌<◌, ◌≤◌, cond, eqb, List, [], ◌∷◌, ◌++◌, map, length, get_or, take, drop, set, sym, ap, ◌∙◌, arith, length-drop}
 use Rattle.std.proofs.lemmas.Bool.{eq-eqb, ne_eqb}
 use Rattle.std.proofs.lemmas.List.{drop_more}
 use Rattle.row.proofs.Fuel.{fuel_step, fuel_end}
@@ -25,9 +25,6 @@ pub record Walked (next name : ℕ → ℕ) (e s : ℕ) (was out : List ℕ) (i 
 module _ (next name : ℕ → ℕ) (e s : ℕ) (was : List ℕ) where
   abbrev ks : List ℕ
   ks = trail next (length was) e s
-
-  pub walked_none : Walked next name e s was was 0 s
-  walked_none = record { rest = ap (λ n. trail next n e s) (let z : length was ≡ length was - 0 = omega arith in z); within = omega arith; front = refl }
 
   module _ (out : List ℕ) (i at : ℕ) (w : Walked next name e s was out i at) where
     rest_at : i < length was → drop i ks ≡ at ∷ cond (eqb at e) [] (trail next (length was - (i + 1)) e (next at))

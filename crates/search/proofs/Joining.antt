@@ -16,19 +16,24 @@ map_turned f [] ys = refl
 map_turned f (x ∷ xs) ys = map_turned f xs (x ∷ ys)
 
 module _ (name : ℕ → ℕ) (ks was : List ℕ) (k : ℕ) (l : k ≡ length ks) where
+  pub turned_front : (out rev : List ℕ) → out ≡ map name ks ++ drop k was → rev ≡ reverse (take k out) →
+      rev ++ post_of 0 k out ≡ map name (reverse ks) ++ drop k was
+  turned_front out rev e r =
+      let n : length (map name ks) ≡ k = length-map ks name ∙ sym l in
+      let t : take k out ≡ map name ks = ap (take k) e ∙ take_at (map name ks) (drop k was) k n in
+      let d : drop k out ≡ drop k was = ap (drop k) e ∙ drop_at (map name ks) (drop k was) k n in
+      ap (λ (xs : List ℕ). xs ++ drop k out) (r ∙ ap reverse t ∙ sym (map_turned name ks []))
+      ∙ ap (λ (xs : List ℕ). map name (reverse ks) ++ xs) d
+
   pub turned : (out rev : List ℕ) → out ≡ map name ks ++ drop k was → rev ≡ reverse (take (k - 0) out) →
       rev ++ post_of 0 (k - 0) out ≡ map name (reverse ks) ++ drop k was
   turned out rev e r =
-      let z : k - 0 ≡ length ks = omega arith in
-      let n : length (map name ks) ≡ k - 0 = length-map ks name ∙ sym z in
-      let t : take (k - 0) out ≡ map name ks = ap (take (k - 0)) e ∙ take_at (map name ks) (drop k was) (k - 0) n in
-      let d : drop (k - 0) out ≡ drop k was = ap (drop (k - 0)) e ∙ drop_at (map name ks) (drop k was) (k - 0) n in
-      ap (λ (xs : List ℕ). xs ++ drop (k - 0) out) (r ∙ ap reverse t ∙ sym (map_turned name ks []))
-      ∙ ap (λ (xs : List ℕ). map name (reverse ks) ++ xs) d
+      let z : k - 0 ≡ k = omega arith in
+      ap (λ n. rev ++ post_of 0 n out) z ∙ turned_front out rev e (r ∙ ap (λ n. reverse (take n out)) z)
 
   module _ (rest : ℕ → List ℕ) (mid : List ℕ) (e : mid ≡ map name (reverse ks) ++ drop k was) where
     abbrev part : List ℕ
-    part = take (length was - k) (drop k mid)
+    part = take (length mid - k) (drop k mid)
 
     behind : drop k mid ≡ drop k was
     behind = ap (drop k) e ∙ drop_at (map name (reverse ks)) (drop k was) k (length-map (reverse ks) name ∙ length-reverse ks ∙ sym l)
@@ -37,7 +42,7 @@ module _ (name : ℕ → ℕ) (ks was : List ℕ) (k : ℕ) (l : k ≡ length ks
     before = ap (take k) e ∙ take_at (map name (reverse ks)) (drop k was) k (length-map (reverse ks) name ∙ length-reverse ks ∙ sym l)
 
     part_rest : part ≡ drop k was
-    part_rest = ap (take (length was - k)) behind ∙ take_all (length was - k) (drop k was) (omega (arith, length-drop k was))
+    part_rest = take_all (length mid - k) (drop k mid) (omega (arith, length-drop k mid)) ∙ behind
 
     fuel : length part ≡ length was - length ks
     fuel = ap length part_rest ∙ length-drop k was ∙ ap (λ n. length was - n) l
@@ -48,15 +53,14 @@ module _ (name : ℕ → ℕ) (ks was : List ℕ) (k : ℕ) (l : k ≡ length ks
         omega (arith, length-append (reverse ks) (rest (length was - length ks)), length-reverse ks)
 
     pub joined : (last : List ℕ) (j : ℕ) → last ≡ map name (rest (length part)) ++ drop j part →
-        put_mid k (length was - k) mid last ≡ map name (reverse ks ++ rest (length was - length ks)) ++ drop (k + j) was
+        put_mid k (length mid - k) mid last ≡ map name (reverse ks ++ rest (length was - length ks)) ++ drop (k + j) was
     joined last j x =
         let js = rest (length was - length ks) in
         let a : last ≡ map name js ++ drop (k + j) was =
         x ∙ ap (λ n. map name (rest n) ++ drop j part) fuel ∙ ap (λ (p : List ℕ). map name js ++ drop j p) part_rest
         ∙ ap (λ (p : List ℕ). map name js ++ p) (drop-drop j k was) in
-        let b : drop (length was - k) (drop k mid) ≡ [] =
-        ap (drop (length was - k)) behind ∙ drop_all (length was - k) (drop k was) (omega (arith, length-drop k was)) in
-        ap (λ (p : List ℕ). p ++ (last ++ drop (length was - k) (drop k mid))) before
+        let b : drop (length mid - k) (drop k mid) ≡ [] = drop_all (length mid - k) (drop k mid) (omega (arith, length-drop k mid)) in
+        ap (λ (p : List ℕ). p ++ (last ++ drop (length mid - k) (drop k mid))) before
         ∙ ap (λ (p : List ℕ). map name (reverse ks) ++ (last ++ p)) b
         ∙ ap (λ (p : List ℕ). map name (reverse ks) ++ p) (append-nil last ∙ a)
         ∙ sym (ap (λ (p : List ℕ). p ++ drop (k + j) was) (map-append name (reverse ks) js)

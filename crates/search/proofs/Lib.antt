@@ -1,5 +1,4 @@
 pub mod Words
-pub mod Options
 pub mod Clearing
 pub mod Turning
 pub mod Toggling

@@ -71,7 +71,7 @@ lists_filter f p a (suc n) l before behind = elim (cases_Bool (f a)) [
 ]
 
 -- what is in such a list
-counting_has : (a n k : ℕ) → has (range_with_len a n) k ≡ true → (a ≤ k) × (k < a + n)
+pub counting_has : (a n k : ℕ) → has (range_with_len a n) k ≡ true → (a ≤ k) × (k < a + n)
 unfolding any
 counting_has a zero k h = absurd (both_ways false refl h)
 counting_has a (suc n) k h = elim (cases_Bool (eqb k a)) [
@@ -79,7 +79,7 @@ counting_has a (suc n) k h = elim (cases_Bool (eqb k a)) [
   | inr e ↦ let ih = counting_has (a + 1) n k (grind arith) in (omega arith, omega arith)
 ]
 
-has_counting : (a n k : ℕ) → a ≤ k → k < a + n → has (range_with_len a n) k ≡ true
+pub has_counting : (a n k : ℕ) → a ≤ k → k < a + n → has (range_with_len a n) k ≡ true
 unfolding any
 has_counting a zero k l u = absurd (omega arith)
 has_counting a (suc n) k l u = elim (cases_eq k a) [
@@ -96,7 +96,7 @@ in_filter f a n k h =
 pub filter_has : (f : ℕ → Bool) (a n k : ℕ) → a ≤ k → k < a + n → f k ≡ true → has (filter f (range_with_len a n)) k ≡ true
 filter_has f a n k l u e = has_filter f (range_with_len a n) k ∙ and_from _ _ e (has_counting a n k l u)
 
-counting_once : (a n : ℕ) → distinct (range_with_len a n) ≡ true
+pub counting_once : (a n : ℕ) → distinct (range_with_len a n) ≡ true
 unfolding distinct
 counting_once a zero = refl
 counting_once a (suc n) = elim (cases_Bool (has (range_with_len (a + 1) n) a)) [

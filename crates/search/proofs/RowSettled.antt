@@ -30,7 +30,8 @@ use Rattle.search.proofs.Dealing.{put, length_put, put_apart, put_slots, put_pla
 use Rattle.search.proofs.Exchanged.{exchanged, exchanged_same}
 use Rattle.search.proofs.Seating.{Rearranges, Seats, used_same, seated_standing}
 use Rattle.search.proofs.Reordered.{those, fill, rearranges, row_is}
-use Rattle.search.proofs.RowPlaces.{slot_one, in_row, place_row}
+use Rattle.row.proofs.Named.{has_slot, place_slot}
+use Rattle.search.proofs.RowPlaces.{slot_one}
 use Rattle.search.proofs.SettleFrames.{only_forgotten, settles_only, settled_alike, forgets_all}
 
 module _ (m m₁ : List ℕ) (a b : ℕ) (R : Ready m) (ua : used m a ≡ true) (ub : used m b ≡ true) (back : cell m places b < cell m places a)
@@ -45,7 +46,7 @@ module _ (m m₁ : List ℕ) (a b : ℕ) (R : Ready m) (ua : used m a ≡ true) 
   f = fine_parts r R.fine_so
 
   open_so : Open r a b
-  open_so = record { there = (in_row m R.stands a ua, in_row m R.stands b ub); no_way = P.no_round }
+  open_so = record { there = (has_slot m R.stands a ua, has_slot m R.stands b ub); no_way = P.no_round }
 
   -- the part: n places from lo on
   abbrev lo : ℕ
@@ -79,10 +80,10 @@ module _ (m m₁ : List ℕ) (a b : ℕ) (R : Ready m) (ua : used m a ≡ true) 
   M p = MA p || MB p
 
   at_b : place (row_of m) b ≡ lo
-  at_b = place_row m R.stands b ub
+  at_b = place_slot m R.stands b ub
 
   at_a : place (row_of m) a ≡ hi
-  at_a = place_row m R.stands a ua
+  at_a = place_slot m R.stands a ua
 
   back_row : place (row_of m) b < place (row_of m) a
   back_row = omega (arith, at_a, at_b, back)
@@ -273,7 +274,7 @@ module _ (m m₁ : List ℕ) (a b : ℕ) (R : Ready m) (ua : used m a ≡ true) 
     same_chain = chain_same;
     same_edges = edges_alike m₁ m' (settled_alike m₁).same ∙ P.kept.same_edges;
     same_used = used_so;
-    at_place = λ s u. sym (place_row m' stands_so s (used_so s ∙ u));
+    at_place = λ s u. sym (place_slot m' stands_so s (used_so s ∙ u));
     is_firm = ap (λ (x : List ℕ). firm r a b x) firm_so ∙ firm_is r f a b open_so back_row;
     keeps_links = ap (λ (x : List ℕ). keeps x (with_link r a b)) firm_so ∙ firm_keeps r f a b open_so back_row;
   }

@@ -1,5 +1,5 @@
 -- A search goes through the chain of one slot: it comes to all that the slot is linked to, or it meets the other search.
-use Rattle.std.proofs.Common.{◌≡◌, ℕ, zero, suc, ◌+◌, ◌-◌, ◌<◌, ◌≤◌, Bool, true, false, List, Some, None, Option, sym, refl, ap, ◌∙◌, inl, inr, arith}
+use Rattle.std.proofs.Common.{◌≡◌, ℕ, zero, suc, ◌+◌, ◌-◌, ◌<◌, ◌≤◌, Bool, true, false, List, Continue, Break, ControlFlow, sym, refl, ap, ◌∙◌, inl, inr, arith}
 use Rattle.std.proofs.lemmas.Bool.{cases_Bool, and_parts}
 use Rattle.row.specs.declared.board.Link.{Link}
 use Rattle.row.specs.Lists.{has}
@@ -23,7 +23,7 @@ use Rattle.search.specs.declared.hunt.Part.{Part}
 use Rattle.search.specs.Layout.{via}
 use Rattle.search.specs.Marks.{marked}
 use Rattle.search.specs.Sides.{chain_of, marks_of, other, far_end}
-use Rattle.search.specs.Hunt.{sees, entered, taken, Spreading, spread_with, spreading, part_of}
+use Rattle.search.specs.Hunt.{sees, entered, taken, Spreading, spreading, part_of}
 use Rattle.search.specs.Meaning.{slot_board, part}
 use Rattle.search.proofs.Touching.{hunting_on, hunting_stepped, stepped_apart}
 use Rattle.search.proofs.Potential.{entries, entries_own}
@@ -34,7 +34,7 @@ use Rattle.search.proofs.Entering.{enters, entered_seen, seen_is}
 
 -- the ways of a turn
 module _ (f : ℕ) (n : List ℕ) (d : Side) (w : Part) (x p : ℕ) where
-  turn_end : met n (chain_of d) p ≡ End → stepped n (chain_of d) p ≡ n → spreading (suc f) n d w x p ≡ record { spread = spread_with None f; memory = n }
+  turn_end : met n (chain_of d) p ≡ End → stepped n (chain_of d) p ≡ n → spreading (suc f) n d w x p ≡ record { spread = Continue f; memory = n }
   unfolding spreading taken
   turn_end e i = rw (e, i) refl
 
@@ -43,7 +43,7 @@ module _ (f : ℕ) (n : List ℕ) (d : Side) (w : Part) (x p : ℕ) where
   turn_dead e = rw e refl
 
   turn_seen : (l k : ℕ) → met n (chain_of d) p ≡ Living l k → stepped n (chain_of d) p ≡ n → sees n d w (far_end n d l) ≡ true
-      → spreading (suc f) n d w x p ≡ record { spread = spread_with (Some (far_end n d l)) f; memory = entered n d w x (far_end n d l) }
+      → spreading (suc f) n d w x p ≡ record { spread = Break (far_end n d l); memory = entered n d w x (far_end n d l) }
   unfolding spreading taken
   turn_seen l k e i h = rw (e, i, h) refl
 
@@ -84,19 +84,19 @@ module _ (m : List ℕ) (a b : ℕ) (S : Setting m a b) (was : ℕ → Link) (d 
   Covered e n = (j : ℕ) → j < e → dead m j ≡ false → key c (link_at m j) ≡ x → part m a b (cell m places (far_end m d j)) ≡ true
       → mine n (cell m places (far_end m d j)) ≡ true
 
-  abbrev pub Ends : ℕ → List ℕ → Option ℕ → Type 0
-  Ends e n None = Covered e n
-  Ends e n (Some t) = (arc (slot_board m) d x t ≡ true) × (marked n (marks_of (other d)) (cell m places t) ≡ true)
+  -- by what is told, with so much fuel that may be gone
+  abbrev pub Ends : ℕ → List ℕ → ℕ → ControlFlow ℕ ℕ → Type 0
+  Ends e n k (Continue f) = Covered e n × (k ≤ f)
+  Ends e n k (Break t) = (arc (slot_board m) d x t ≡ true) × (marked n (marks_of (other d)) (cell m places t) ≡ true)
 
   pub record Spreaded (n : List ℕ) (f p e : ℕ) (y : Spreading) : Type 0 where
     pub sound : Sound m a b was y.memory
     pub grown : Grown d (cell m places x) n y.memory
-    pub fuel : f ≤ y.spread.fuel + entries g x (cell n (pointers c) p) + 1
-    pub told : Ends e y.memory y.spread.met
+    pub told : Ends e y.memory (f - (entries g x (cell n (pointers c) p) + 1)) y.spread
 
-  ends_more : (l e : ℕ) (n : List ℕ) (o : Option ℕ) → Ends l n o → (Covered l n → Covered e n) → Ends e n o
-  ends_more l e n None h k = k h
-  ends_more l e n (Some t) h k = h
+  ends_more : (l e j k : ℕ) (n : List ℕ) (o : ControlFlow ℕ ℕ) → Ends l n j o → k ≤ j → (Covered l n → Covered e n) → Ends e n k o
+  ends_more l e j k n (Continue f) h i m = (m h.0, omega (arith, h.1))
+  ends_more l e j k n (Break t) h i m = h
 
   -- each turn that goes on leaves fewer entries
   falls : (n : List ℕ) (p e y : ℕ) → At n was c p x e → y < cell n (pointers c) p → entries g x y < entries g x (cell n (pointers c) p)
@@ -129,8 +129,7 @@ module _ (m : List ℕ) (a b : ℕ) (S : Setting m a b) (was : ℕ → Link) (d 
     at_end i t = rw (turn_end f n d w x p i t.stays) (record {
       sound = s;
       grown = record { stays = λ q k. k; same_other = λ q. refl; beyond = λ q k. inl k };
-      fuel = omega arith;
-      told = λ j l k o y. absurd (has_none (lives n c x e) j t.none (lives_then n s e j l k o));
+      told = (λ j l k o y. absurd (has_none (lives n c x e) j t.none (lives_then n s e j l k o)), omega arith);
     })
 
     abbrev n₁ : List ℕ
@@ -146,8 +145,7 @@ module _ (m : List ℕ) (a b : ℕ) (S : Setting m a b) (was : ℕ → Link) (d 
         rw (turn_dead f n d w x p i) (record {
           sound = y.sound;
           grown = grown_on d (cell m places x) n n₁ _ o y.grown;
-          fuel = omega (arith, y.fuel);
-          told = y.told;
+          told = ends_more e e _ _ _ _ y.told (omega arith) (λ z. z);
         })
 
     module _ (l k : ℕ) (i : met n c p ≡ Living l k) (t : Came n was c p x e l k) where
@@ -163,7 +161,6 @@ module _ (m : List ℕ) (a b : ℕ) (S : Setting m a b) (was : ℕ → Link) (d 
           rw (turn_seen f n d w x p l k i t.stays v, entered_seen m a b S was n s d x far ux h joins v) (record {
             sound = s;
             grown = record { stays = λ q k. k; same_other = λ q. refl; beyond = λ q k. inl k };
-            fuel = omega arith;
             told = (joins, q.1);
           })
 
@@ -174,12 +171,10 @@ module _ (m : List ℕ) (a b : ℕ) (S : Setting m a b) (was : ℕ → Link) (d 
           let u : cell n₂ (pointers c) k ≡ cell n (pointers c) k = r.alike.pointing c k in
           let less = falls n p e (cell n (pointers c) k) at t.falls in
           let y = rest n₂ k l r.sound (at_alike n n₂ r.alike was c k x l t.at) (r.grown.stays (cell m places x) h) (rw u (omega arith)) in
-          let fuel = rw u at y.fuel in
           rw (turn_on f n d w x p l k i t.stays v) (record {
             sound = y.sound;
             grown = grown_on d (cell m places x) n n₂ _ r.grown y.grown;
-            fuel = omega (arith, fuel);
-            told = ends_more l e _ _ y.told (λ cov j b o q z. elim (has_next (lives n c x e) (lives n c x l) l j t.rest (lives_then n s e j b o q)) [
+            told = ends_more l e _ _ _ _ y.told (rw u (omega arith)) (λ cov j b o q z. elim (has_next (lives n c x e) (lives n c x l) l j t.rest (lives_then n s e j b o q)) [
               | inl eq ↦
                   let same : far ≡ far_end m d j = far_then n s l ∙ ap (far_end m d) (sym eq) in
                   y.grown.stays (cell m places (far_end m d j)) (rw (← same) (r.here (rw same z)))

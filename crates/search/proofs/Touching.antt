@@ -1,5 +1,5 @@
 -- What a search leaves as it was, whatever stands in the memory.
-use Rattle.std.proofs.Common.{◌≡◌, ℕ, zero, suc, ◌+◌, ◌^◌, ◌<◌, true, cond, not, ◌&&◌, List, Some, None, Option, refl, ◌∙◌}
+use Rattle.std.proofs.Common.{◌≡◌, ℕ, zero, suc, ◌+◌, ◌^◌, ◌<◌, true, cond, not, ◌&&◌, List, Some, None, Option, refl, Continue, Break, ControlFlow, ◌∙◌}
 use Rattle.std.proofs.lemmas.Bool.{and_parts, cond_both}
 use Rattle.row.specs.declared.board.Link.{Link}
 use Rattle.row.specs.declared.column.Column.{Column}
@@ -16,14 +16,12 @@ use Rattle.row.proofs.Cells.{length_written, cell_apart}
 use Rattle.search.specs.declared.side.Side.{Side}
 use Rattle.search.specs.declared.side.Side.TheVariants.{Fore, Hind}
 use Rattle.search.specs.declared.hunt.Part.{Part}
-use Rattle.search.specs.declared.hunt.Turn.{Turn}
-use Rattle.search.specs.declared.hunt.Turn.TheVariants.{Done, Met as Meets, On}
 use Rattle.search.specs.declared.hunt.Front.{Front}
 use Rattle.search.specs.Layout.{fore, via}
 use Rattle.search.specs.Marks.{fresh, added}
 use Rattle.search.specs.MarkLaws.{Only}
 use Rattle.search.specs.Sides.{chain_of, marks_of, far_end}
-use Rattle.search.specs.Hunt.{inside, sees, entered, left_by, taken, Spreading, spread_on, spreading, Going, moved, gone_on, idle, Met, met_with, hunted, meeting, started, part_of, front}
+use Rattle.search.specs.Hunt.{inside, sees, entered, left_by, taken, Spreading, spread_on, spreading, Going, moved, gone_on, idle, Met, met_with, hunt_on, hunted, meeting, started, part_of, front}
 use Rattle.search.specs.HuntLaws.{untouched, Hunting, MeetsOnly}
 use Rattle.search.proofs.Frames.{Small, small_cell, only_written, only_added}
 
@@ -116,11 +114,11 @@ module _ (m : List ℕ) (d : Side) (w : Part) (s : ℕ) (f : Small m → s < 2 ^
   unfolding taken
   hunting_taken n p h = hunting_left (stepped n (chain_of d) p) (met n (chain_of d) p) (hunting_on m n (stepped n (chain_of d) p) h (hunting_stepped n d p))
 
-  hunting_turn : (x : Turn) (g : ℕ) (n : List ℕ) (k : ℕ → Spreading) → Hunting m n → ((p : ℕ) → Hunting m (k p).memory)
+  hunting_turn : (x : ControlFlow (Option ℕ) ℕ) (g : ℕ) (n : List ℕ) (k : ℕ → Spreading) → Hunting m n → ((p : ℕ) → Hunting m (k p).memory)
       → Hunting m (spread_on x g n k).memory
-  hunting_turn Done g n k h i = h
-  hunting_turn (Meets t) g n k h i = h
-  hunting_turn (On p) g n k h i = i p
+  hunting_turn (Break None) g n k h i = h
+  hunting_turn (Break (Some t)) g n k h i = h
+  hunting_turn (Continue p) g n k h i = i p
 
   pub hunting_spreading : (g : ℕ) (n : List ℕ) (p : ℕ) → Hunting m n → Hunting m (spreading g n d w s p).memory
   unfolding spreading
@@ -133,9 +131,13 @@ module _ (m : List ℕ) (d : Side) (w : Part) (s : ℕ) (f : Small m → s < 2 ^
 pub hunting_gone : (m : List ℕ) (w : Part) (c : Front) → Hunting m (gone_on m w c).memory
 unfolding gone_on
 hunting_gone m w c =
-    given_both (λ (g : Going). Hunting m g.memory) c.cursor (record { advance = record { met = None; front = c }; memory = m })
+    given_both (λ (g : Going). Hunting m g.memory) c.cursor (record { advance = Continue c; memory = m })
     (λ p. moved c (spreading c.fuel m c.side w (cell m slots p) (cell m slots p)) p (cell m slots p)) (hunting_same m)
     (λ p. hunting_spreading m c.side w (cell m slots p) (small_cell m slots p) c.fuel m (cell m slots p) (hunting_same m))
+
+hunting_step : (m : List ℕ) (x : ControlFlow Link Front) (n : List ℕ) (k : Front → Met) → Hunting m n → ((c : Front) → Hunting m (k c).memory) → Hunting m (hunt_on x n k).memory
+hunting_step m (Break l) n k h i = h
+hunting_step m (Continue c) n k h i = i c
 
 pub hunting_hunted : (f : ℕ) (m : List ℕ) (w : Part) (c d : Front) → Hunting m (hunted f m w c d).memory
 unfolding hunted
@@ -143,11 +145,9 @@ hunting_hunted zero m w c d = hunting_same m
 hunting_hunted (suc f) m w c d =
     let g = gone_on m w c in
     let h = hunting_gone m w c in
-    let rest = given g.advance.met (hunted f g.memory w d g.advance.front) (λ l. met_with (Some l) g.memory) in
-    cond_both (idle c && idle d) (met_with None m) rest (λ (x : Met). Hunting m x.memory) (λ _. hunting_same m)
-    (λ _. given_both (λ (x : Met). Hunting m x.memory) g.advance.met (hunted f g.memory w d g.advance.front) (λ l. met_with (Some l) g.memory)
-    (hunting_on m g.memory (hunted f g.memory w d g.advance.front).memory h (hunting_hunted f g.memory w d g.advance.front))
-    (λ l. h))
+    let rest : Front → Met = λ e. hunted f g.memory w d e in
+    cond_both (idle c && idle d) (met_with None m) (hunt_on g.advance g.memory rest) (λ (x : Met). Hunting m x.memory) (λ _. hunting_same m)
+    (λ _. hunting_step m g.advance g.memory rest h (λ e. hunting_on m g.memory (rest e).memory h (hunting_hunted f g.memory w d e)))
 
 pub hunting_started : (m : List ℕ) (l : Link) → Hunting m (started m l)
 hunting_started m l =

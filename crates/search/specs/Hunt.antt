@@ -4,25 +4,31 @@
 --   sees m d w t       the slot t lies in the part, and the other search has come to it
 --   entered m d w s t  the memory after the search d came from the slot s to the slot t: t's place is marked if it lies in the part; if it wasn't before,
 --                      s is noted as the slot that t was come to from
---   Taken              what a turn of a walk tells, and the memory after it
+--   Taken              what a turn of a walk tells, and the memory after it: it breaks off at the end of the chain, or with the slot at which the other
+--                      search was met; else it goes on at a pointer
 --   turned, left_by    the two, by what the walk's step meets
 --   taken m d w s p    a turn of the walk through the chain of the slot s, which stands at the pointer p
---   Spreading          what going through a chain tells, and the memory after it
---   spread_with o f    it met the other search at o, and f is left of the fuel
+--   Spreading          what going through a chain tells, and the memory after it: it breaks off with the slot at which the other search was met; else
+--                      it tells what is left of the fuel
 --   spread_on x f m k  what is told after the turn x, with k for the rest of the walk
 --   spreading f m d w s p   the walk, from the pointer p on, in at most f turns
---   Going              what a search tells that goes on from one card, and the memory after it
---   moved c x p s      it went on from the place p, where the slot s is, which told x
+--   Going              what a search tells that goes on from one card, and the memory after it: it breaks off with the link at which it met the other;
+--                      else it tells where it stands now
+--   advanced c x m p s what it tells that went on from the place p, where the slot s is, which told x and left the memory m
+--   moved c x p s      the two, together
 --   gone_on m w c      the search c goes on from the card at its cursor
 --   idle c             it has nothing to go on from
 --   Met                where two searches met, and the memory after them
 --   met_with o m       the two, together
+--   hunt_on x m k      what is told after one of them told x and left the memory m, with k for the rest
 --   hunted f m w c d   the two searches in turn, c first, at most f turns
 --   started m l        the memory with the ends of the link l marked
 --   part_of m l        the part between them
 --   front d p          the search d at its start, from the place p
 --   meeting m l        the searches from both ends of the link l
 use Rattle.std.specs.Prelude.{ℕ, zero, suc, Bool, true, false, cond, not, ◌&&◌, List, Some, None, Option, nat_le}
+use Rattle.std.specs.declared.ops.ControlFlow.{ControlFlow}
+use Rattle.std.specs.declared.ops.ControlFlow.TheVariants.{Continue, Break}
 use Rattle.row.specs.declared.board.Link.{Link}
 use Rattle.row.specs.Columns.{cell, written}
 use Rattle.row.specs.Layout.{slots, places}
@@ -33,11 +39,7 @@ use Rattle.links.specs.Chains.{met, stepped}
 use Rattle.search.specs.declared.side.Side.{Side}
 use Rattle.search.specs.declared.side.Side.TheVariants.{Fore, Hind}
 use Rattle.search.specs.declared.hunt.Part.{Part}
-use Rattle.search.specs.declared.hunt.Turn.{Turn}
-use Rattle.search.specs.declared.hunt.Turn.TheVariants.{Done, Met as Meets, On}
-use Rattle.search.specs.declared.hunt.Spread.{Spread}
 use Rattle.search.specs.declared.hunt.Front.{Front}
-use Rattle.search.specs.declared.hunt.Advance.{Advance}
 use Rattle.search.specs.Layout.{fore, hind, via}
 use Rattle.search.specs.Marks.{marked, fresh, added}
 use Rattle.search.specs.Sides.{chain_of, marks_of, other, far_end, ahead, joined}
@@ -54,13 +56,13 @@ entered m d w s t =
     (written (added m (marks_of d) (cell m places t)) via t s) m
 
 pub record Taken : Type 0 where
-  pub turn : Turn
+  pub turn : ControlFlow (Option ℕ) ℕ
   pub memory : List ℕ
 
-abbrev pub turned : List ℕ → Side → Part → ℕ → ℕ → Meeting → Turn
-turned m d w s p End = Done
-turned m d w s p Dead = On p
-turned m d w s p (Living l n) = cond (sees m d w (far_end m d l)) (Meets (far_end m d l)) (On n)
+abbrev pub turned : List ℕ → Side → Part → ℕ → ℕ → Meeting → ControlFlow (Option ℕ) ℕ
+turned m d w s p End = Break None
+turned m d w s p Dead = Continue p
+turned m d w s p (Living l n) = cond (sees m d w (far_end m d l)) (Break (Some (far_end m d l))) (Continue n)
 
 abbrev pub left_by : List ℕ → Side → Part → ℕ → Meeting → List ℕ
 left_by m d w s End = m
@@ -74,38 +76,33 @@ taken m d w s p = record {
 }
 
 pub record Spreading : Type 0 where
-  pub spread : Spread
+  pub spread : ControlFlow ℕ ℕ
   pub memory : List ℕ
 
-abbrev pub spread_with : Option ℕ → ℕ → Spread
-spread_with o f = record { met = o; fuel = f }
-
-abbrev pub spread_on : Turn → ℕ → List ℕ → (ℕ → Spreading) → Spreading
-spread_on Done f m k = record { spread = spread_with None f; memory = m }
-spread_on (Meets t) f m k = record { spread = spread_with (Some t) f; memory = m }
-spread_on (On n) f m k = k n
+abbrev pub spread_on : ControlFlow (Option ℕ) ℕ → ℕ → List ℕ → (ℕ → Spreading) → Spreading
+spread_on (Break None) f m k = record { spread = Continue f; memory = m }
+spread_on (Break (Some t)) f m k = record { spread = Break t; memory = m }
+spread_on (Continue n) f m k = k n
 
 unfoldable pub spreading : ℕ → List ℕ → Side → Part → ℕ → ℕ → Spreading
-spreading zero m d w s p = record { spread = spread_with None 0; memory = m }
+spreading zero m d w s p = record { spread = Continue 0; memory = m }
 spreading (suc f) m d w s p =
     spread_on (taken m d w s p).turn f (taken m d w s p).memory (λ n. spreading f (taken m d w s p).memory d w s n)
 
 pub record Going : Type 0 where
-  pub advance : Advance
+  pub advance : ControlFlow Link Front
   pub memory : List ℕ
 
+abbrev pub advanced : Front → ControlFlow ℕ ℕ → List ℕ → ℕ → ℕ → ControlFlow Link Front
+advanced c (Break t) m p s = Break (joined c.side s t)
+advanced c (Continue f) m p s = Continue (record { side = c.side; cursor = ahead m c.side p; fuel = f })
+
 abbrev pub moved : Front → Spreading → ℕ → ℕ → Going
-moved c x p s = record {
-  advance = record {
-    met = given x.spread.met None (λ t. Some (joined c.side s t));
-    front = record { side = c.side; cursor = ahead x.memory c.side p; fuel = x.spread.fuel };
-  };
-  memory = x.memory;
-}
+moved c x p s = record { advance = advanced c x.spread x.memory p s; memory = x.memory }
 
 unfoldable pub gone_on : List ℕ → Part → Front → Going
 gone_on m w c =
-    given c.cursor (record { advance = record { met = None; front = c }; memory = m })
+    given c.cursor (record { advance = Continue c; memory = m })
     (λ p. moved c (spreading c.fuel m c.side w (cell m slots p) (cell m slots p)) p (cell m slots p))
 
 abbrev pub idle : Front → Bool
@@ -118,12 +115,15 @@ pub record Met : Type 0 where
 abbrev pub met_with : Option Link → List ℕ → Met
 met_with o m = record { answer = o; memory = m }
 
+abbrev pub hunt_on : ControlFlow Link Front → List ℕ → (Front → Met) → Met
+hunt_on (Break l) m k = met_with (Some l) m
+hunt_on (Continue c) m k = k c
+
 unfoldable pub hunted : ℕ → List ℕ → Part → Front → Front → Met
 hunted zero m w c d = met_with None m
 hunted (suc f) m w c d =
     cond (idle c && idle d) (met_with None m)
-    (given (gone_on m w c).advance.met (hunted f (gone_on m w c).memory w d (gone_on m w c).advance.front)
-    (λ l. met_with (Some l) (gone_on m w c).memory))
+    (hunt_on (gone_on m w c).advance (gone_on m w c).memory (λ e. hunted f (gone_on m w c).memory w d e))
 
 abbrev pub started : List ℕ → Link → List ℕ
 started m l = added (added m fore (cell m places l.to)) hind (cell m places l.from)

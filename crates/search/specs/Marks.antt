@@ -2,6 +2,7 @@
 -- 128 on, which has a bit for each word of the places.
 --
 --   digit w t          whether the binary digit t of the number w is set
+--   first_word l       the word that the level l starts at
 --   bit m c s i        whether the bit i of the level that starts at the word s is set
 --   flipped m c s i    the memory after that bit was turned
 --   toggled m c p      the memory after the bit of the place p was turned, and its word's bit in the summary where that changes
@@ -27,9 +28,15 @@ use Rattle.std.specs.Int.Count.{count_leading_zeros, count_trailing_zeros}
 use Rattle.row.specs.declared.column.Column.{Column}
 use Rattle.row.specs.Columns.{cell, written}
 use Rattle.row.specs.Lookup.{given}
+use Rattle.search.specs.declared.marks.Level.{Level}
+use Rattle.search.specs.declared.marks.Level.TheVariants.{Places, Summary}
 
 unfoldable pub digit : ℕ → ℕ → Bool
 digit w t = w / 2 ^ t % 2 == 1
+
+abbrev pub first_word : Level → ℕ
+first_word Places = 0
+first_word Summary = 128
 
 unfoldable pub bit : List ℕ → Column → ℕ → ℕ → Bool
 bit m c s i = digit (cell m c (s + i / 64)) (i % 64)

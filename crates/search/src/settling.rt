@@ -12,37 +12,34 @@ use row::{CARDS, PLACES, SLOTS};
 fn sooner(one: Option<u64>, other: Option<u64>) -> Option<u64>
     ensures { result ≡ sooner one other }
 {
-    let Some(p) = one else {
-        return other;
-    };
-    let Some(q) = other else {
-        return Some(p);
-    };
-    Some(p.min(q))
+    match (one, other) {
+        (Some(p), Some(q)) => Some(p.min(q)),
+        _ => one.or(other),
+    }
 }
 
 // Writes the slots at the marked places, upward, to CHOSEN from the index `from` on; says the next free index.
+#[tactic(auto, using(crate::proofs::SettleSteps::steps), unfolding(crate::specs::Settle::gathers))]
 fn gather(memory: &mut [u64], marks: Marks, from: u64) -> u64
     requires { from ≤ 8192 }
     ensures is { result ≡ (gathers memory.old marks.column from).end }
     ensures below { result ≤ from + 8192 }
     ensures after { memory.new ≡ (gathers memory.old marks.column from).memory }
 {
-    let mut end = from;
     let mut next = marks.first(memory);
-    for _i in 0..CARDS {
+    for end in from..from + CARDS {
         let Some(place) = next else {
             return end;
         };
         let slot = SLOTS.get(memory, place);
         CHOSEN.set(memory, end, slot);
-        end += 1;
         next = marks.next_up(memory, place);
     }
-    end
+    from + CARDS
 }
 
 // Writes the slots at the places of both sets to CHOSEN, in their new order.
+#[tactic(auto, unfolding(crate::specs::Settle::chose))]
 fn choose(memory: &mut [u64])
     ensures { memory.new ≡ chose memory.old }
 {
@@ -51,6 +48,7 @@ fn choose(memory: &mut [u64])
 }
 
 // The first place of both sets.
+#[tactic(auto, unfolding(crate::specs::Settle::both_first))]
 fn first_of_both(memory: &[u64]) -> Option<u64>
     ensures { result ≡ both_first memory.now }
 {
@@ -58,6 +56,7 @@ fn first_of_both(memory: &[u64]) -> Option<u64>
 }
 
 // The first place of both sets after `place`.
+#[tactic(auto, unfolding(crate::specs::Settle::both_next))]
 fn next_of_both(memory: &[u64], place: u64) -> Option<u64>
     ensures { result ≡ both_next memory.now place }
 {
@@ -65,6 +64,7 @@ fn next_of_both(memory: &[u64], place: u64) -> Option<u64>
 }
 
 // Gives the place to the `i`-th slot of CHOSEN.
+#[tactic(auto, unfolding(crate::specs::Settle::seated))]
 fn seat(memory: &mut [u64], place: u64, i: u64)
     ensures { memory.new ≡ seated memory.old place i }
 {
@@ -74,6 +74,7 @@ fn seat(memory: &mut [u64], place: u64, i: u64)
 }
 
 // Gives the places of both sets, upward, to the slots of CHOSEN.
+#[tactic(auto, using(crate::proofs::SettleSteps::steps))]
 fn deal(memory: &mut [u64])
     ensures { memory.new ≡ dealt 8192 memory.old (both_first memory.old) 0 }
 {
@@ -88,6 +89,7 @@ fn deal(memory: &mut [u64])
 }
 
 // Takes all marks of both sets away.
+#[tactic(auto, unfolding(crate::specs::Settle::forgotten))]
 pub fn forget(memory: &mut [u64])
     ensures { memory.new ≡ forgotten memory.old }
 {
@@ -97,6 +99,7 @@ pub fn forget(memory: &mut [u64])
 
 // Gives the places of both sets to the slots that stand at the hind ones, and then to those at the fore ones, each in their order; both sets are empty
 // then.
+#[tactic(auto, unfolding(crate::specs::Settle::settled))]
 pub fn settle(memory: &mut [u64])
     ensures { memory.new ≡ settled memory.old }
 {

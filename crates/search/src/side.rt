@@ -1,13 +1,13 @@
 // The two searches: forward along the links out of a card, and backward along those into it.
 ghost use Rattle.std.specs.Prelude.{◌≡◌};
 ghost use Rattle.search.specs.Sides.{chain_of, marks_of, other, far_end, ahead, joined};
-ghost use Rattle.search.specs.Marks.{Within};
 
 use crate::layout::{FORE, HIND};
 use crate::marks::Marks;
 use links::{Chain, from_of, to_of};
 use row::Link;
 
+// An enum, and not a trait with a type for each: the searches take turns in one loop, where each comes to stand in the other's place.
 #[derive(Clone, Copy)]
 pub(crate) enum Side {
     Fore,
@@ -56,8 +56,7 @@ impl Side {
 
     // The next place that it has come to: to the right forward, to the left backward.
     pub(crate) fn next(self, memory: &[u64], place: u64) -> Option<u64>
-        ensures is { result ≡ ahead memory.now self place }
-        ensures below { Within 8192 result }
+        ensures { result ≡ ahead memory.now self place }
     {
         match self {
             Side::Fore => FORE.next_up(memory, place),

@@ -5,15 +5,18 @@
 ghost use Rattle.std.specs.Prelude.{◌≡◌, ◌≤◌, ◌++◌, length, drop};
 ghost use Rattle.row.specs.Columns.{cell};
 ghost use Rattle.search.specs.Layout.{via};
+ghost use Rattle.search.specs.Settle.{forgotten};
 ghost use Rattle.search.specs.Way.{trail, way, over, shown};
 
 use crate::layout::VIA;
-use row::{CARDS, IDS, Link};
+use crate::settling::forget;
+use row::{CARDS, Column, IDS, Link};
 
-// Writes the cards from that of `first` on, by `VIA`, up to that of `last`, to the front of `out`, no more than it has room for; says how many.
-fn follow(memory: &[u64], first: u64, last: u64, out: &mut [u64]) -> usize
-    ensures is { result ≡ length (trail (cell memory.now via) (length out.old) last first) }
-    ensures out { out.new ≡ over memory.now (trail (cell memory.now via) (length out.old) last first) result out.old }
+// Writes the cards from that of the slot `first` on, each slot followed by the one that the column `by` has for it, up to that of `last`, to the front of
+// `out`, no more than it has room for; says how many.
+pub fn show_trail(memory: &[u64], by: Column, first: u64, last: u64, out: &mut [u64]) -> usize
+    ensures is { result ≡ length (trail (cell memory.now by) (length out.old) last first) }
+    ensures out { out.new ≡ over memory.now (trail (cell memory.now by) (length out.old) last first) result out.old }
     ensures within { result ≤ length out.old }
 {
     let mut slot = first;
@@ -22,7 +25,7 @@ fn follow(memory: &[u64], first: u64, last: u64, out: &mut [u64]) -> usize
         if slot == last {
             return i + 1;
         }
-        slot = VIA.get(memory, slot);
+        slot = by.get(memory, slot);
     }
     out.len()
 }
@@ -32,10 +35,9 @@ fn trace(memory: &[u64], link: Link, joint: Link, out: &mut [u64]) -> usize
     ensures is { result ≡ length (way (cell memory.now via) (length out.old) link joint) }
     ensures out { out.new ≡ over memory.now (way (cell memory.now via) (length out.old) link joint) result out.old }
 {
-    let n = out.len();
-    let back = follow(memory, joint.from, link.to, out);
-    out[0..back].reverse();
-    back + follow(memory, joint.to, link.from, &mut out[back..n])
+    let back = show_trail(memory, VIA, joint.from, link.to, out);
+    out[..back].reverse();
+    back + show_trail(memory, VIA, joint.to, link.from, &mut out[back..])
 }
 
 // Shows the way from `link.to` on to `link.from` that goes by the link `joint`, where the searches met: the numbers of its cards are written to the
@@ -48,5 +50,16 @@ pub fn show(memory: &[u64], link: Link, joint: Link, out: &mut [u64]) -> u64
     if out.len() < room {
         return 0;
     }
-    trace(memory, link, joint, &mut out[0..room]) as u64
+    trace(memory, link, joint, &mut out[..room]) as u64
+}
+
+// Shows the way as `show` does, and forgets the search that found it.
+pub fn show_and_forget(memory: &mut [u64], link: Link, joint: Link, out: &mut [u64]) -> u64
+    ensures is { result ≡ length (shown memory.old link joint out.old) }
+    ensures after { memory.new ≡ forgotten memory.old }
+    ensures out { out.new ≡ shown memory.old link joint out.old ++ drop result out.old }
+{
+    let count = show(memory, link, joint, out);
+    forget(memory);
+    count
 }

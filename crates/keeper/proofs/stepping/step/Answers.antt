@@ -1,59 +1,45 @@
-use Rattle.std.proofs.Common.{◌++◌, length, drop, sym, refl, ap, ◌∙◌, arith}
-use Rattle.std.proofs.lemmas.Bool.Decides.{nat_tests}
-use Rattle.keeper.specs.Answers.{Answer}
-use Rattle.keeper.specs.Own.{answer}
-use Rattle.keeper.proofs.Fitting.{took, untook, answer_busy, answer_said, answer_next}
+use Rattle.std.proofs.Common.{ℕ, List, take, Err, sym, subst}
+use Rattle.keeper.specs.declared.event.Reason.TheVariants.{Unfit}
+use Rattle.keeper.specs.Own.{answer, StepSays}
+use Rattle.keeper.specs.Answers.{Gives}
+use Rattle.keeper.proofs.Fitting.{other_size, short_out, took, untook}
 use Rattle.keeper.proofs.OwnSize.{own_fits}
 use Rattle.keeper.proofs.Wholly.{whole_own, whole_in_own}
 use Rattle.keeper.proofs.stepping.step.Goals as goal
 
-pub returns-then-memory-ne-MEMORY : goal.returns-then-memory-ne-MEMORY
-returns-then-memory-ne-MEMORY c = record {
-  says =
-      untook c.args.memory.now c.args.event c.args.out.now _ _ _ (let h = c.then-memory-ne-MEMORY.either in grind (arith, nat_tests))
-      (record { act = refl; memory = refl; told = refl });
-  whole = whole_own;
-  firmer = whole_in_own;
-  fits = own_fits;
-}
-
-pub returns-then-get-ne-NOTHING : goal.returns-then-get-ne-NOTHING
-returns-then-get-ne-NOTHING c =
-    let m = c.args.memory.now in
-    let e = ap (answer m) c.in-Said.is ∙ answer_busy m c.in-Said.command (λ z. c.if-get-ne-NOTHING.true (c.get.ensures ∙ z)) in
+pub returns-in_default : goal.returns-in_default
+returns-in_default c =
+    let n = c.in_default.ensures.cases in
     record {
-      says =
-          took m c.args.event c.args.out.now _ _ _ c.if-memory-ne-MEMORY.false c.if-out-lt-OUTPUT.false
-          (sym (ap (λ (a : Answer). a.act) e)) (sym (ap (λ (a : Answer). a.memory) e))
-          (sym (ap (λ (a : Answer). a.numbers ++ drop (length a.numbers) c.args.out.now) e));
+      says = untook c.args.memory.now c.args.event c.args.out.now (other_size c.args.memory.now c.args.out.now n);
       whole = whole_own;
       firmer = whole_in_own;
       fits = own_fits;
     }
 
-pub returns-in-Next : goal.returns-in-Next
-returns-in-Next c =
-    let m = c.args.memory.now in
-    let e = ap (answer m) c.in-Next.is ∙ answer_next m in
+pub returns-in_default-first_chunk_mut : goal.returns-in_default-first_chunk_mut
+returns-in_default-first_chunk_mut c =
+    let w = c.in-Some.ensures.cases in
+    let n = c.in_default-first_chunk_mut.ensures.cases in
     record {
       says =
-          took m c.args.event c.args.out.now _ _ _ c.if-memory-ne-MEMORY.false c.if-out-lt-OUTPUT.false
-          (c.go_on.ensures.act ∙ sym (ap (λ (a : Answer). a.act) e)) (c.go_on.ensures.after ∙ sym (ap (λ (a : Answer). a.memory) e))
-          (c.go_on.ensures.out ∙ sym (ap (λ (a : Answer). a.numbers ++ drop (length a.numbers) c.args.out.now) e));
+          subst (λ (m : List ℕ). StepSays c.args.memory.now c.args.event c.args.out.now (Err Unfit) m c.args.out.now) (sym w.same)
+          (untook c.args.memory.now c.args.event c.args.out.now (short_out c.args.memory.now c.args.out.now n));
       whole = whole_own;
       firmer = whole_in_own;
       fits = own_fits;
     }
 
-pub returns-else-get-ne-NOTHING : goal.returns-else-get-ne-NOTHING
-returns-else-get-ne-NOTHING c =
-    let m = c.args.memory.now in
-    let e = ap (answer m) c.in-Said.is ∙ answer_said m c.in-Said.command (sym c.get.ensures ∙ c.if-get-ne-NOTHING.false) in
+pub returns : goal.returns
+returns c =
+    let w = c.in-Some.ensures.cases in
+    let f = c.in-Some-first_chunk_mut.ensures.cases in
     record {
       says =
-          took m c.args.event c.args.out.now _ _ _ c.if-memory-ne-MEMORY.false c.if-out-lt-OUTPUT.false
-          (c.say.ensures.act ∙ sym (ap (λ (a : Answer). a.act) e)) (c.say.ensures.after ∙ sym (ap (λ (a : Answer). a.memory) e))
-          (c.say.ensures.out ∙ sym (ap (λ (a : Answer). a.numbers ++ drop (length a.numbers) c.args.out.now) e));
+          took c.args.memory.now c.args.event c.args.out.now _ _ _ w.long f.enough
+          (subst (λ (m : List ℕ). Gives (answer m c.args.event) (take 8192 c.args.out.now) c.hear.result c.hear.new.memory c.hear.new.out) w.same
+          (subst (λ (o : List ℕ). Gives (answer c.in-Some.memory.now c.args.event) o c.hear.result c.hear.new.memory c.hear.new.out) f.same
+          c.hear.ensures));
       whole = whole_own;
       firmer = whole_in_own;
       fits = own_fits;

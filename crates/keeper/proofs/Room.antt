@@ -1,0 +1,92 @@
+-- No answer has more numbers than the output has room for.
+use Rattle.std.proofs.Common.{◌≡◌, ℕ, ◌≤◌, ◌+◌, ◌-◌, min, ◌++◌, eqb, ltb, leb, List, length, take, drop, sym, ap, ◌∙◌, arith, length-take}
+use lib.ListN.{length-map}
+use Rattle.std.proofs.lemmas.List.{append_assoc, take-append-drop, drop-append-le, length-take-le}
+use Rattle.row.specs.declared.board.Command.{Command}
+use Rattle.row.specs.declared.board.Command.TheVariants.{Comes, Goes, Link as Links, Unlink as Unlinks, Places}
+use Rattle.row.specs.declared.board.Link.{Link}
+use Rattle.row.specs.Columns.{cell}
+use Rattle.row.specs.Layout.{tally, ids, slots, places}
+use Rattle.row.specs.Moves.{place_found}
+use Rattle.links.specs.Entries.{found as entry_found}
+use Rattle.links.specs.Layout.{live}
+use Rattle.links.specs.Building.{inserted}
+use Rattle.search.specs.Layout.{via}
+use Rattle.search.specs.Hunt.{meeting}
+use Rattle.search.specs.Settle.{settled}
+use Rattle.search.specs.Way.{way}
+use Rattle.search.proofs.Joining.{way_few}
+use Rattle.keeper.specs.declared.event.Event.{Event}
+use Rattle.keeper.specs.declared.event.Event.TheVariants.{Said, Next}
+use Rattle.keeper.specs.Answers.{Answer, pending}
+use Rattle.keeper.specs.Telling.{middle, told_part}
+use Rattle.keeper.specs.Reordering.{round_cards, shown_round, moved, reordered}
+use Rattle.keeper.specs.Linking.{slots_found, linked}
+use Rattle.keeper.specs.Own.{shown_places, said, went_on, answer}
+use Rattle.keeper.proofs.OwnSize.{Any}
+use Rattle.keeper.proofs.Size.{cond_holds, given_holds}
+
+abbrev pub Few : Answer → Type 0
+Few a = length a.numbers ≤ 8192
+
+few_told : (m : List ℕ) (i j : ℕ) → Few (told_part m i j)
+unfolding told_part middle
+few_told m i j =
+    let n = min (min j 8192 - min i 8192) 4096 in
+    let xs = drop (slots.base + min i 8192) m in
+    omega (arith, length-map (take n xs) (cell m ids), length-take n xs)
+
+few_round : (m : List ℕ) (x y : Link) → Few (shown_round m x y)
+unfolding shown_round round_cards
+few_round m x y = omega (arith, length-map (way (cell m via) 8192 x y) (cell m ids), way_few (cell m via) 8192 x y)
+
+few_moved : (m : List ℕ) (x : Link) (i j : ℕ) → Few (moved m x i j)
+unfolding moved
+few_moved m x i j =
+    cond_holds Few (leb 65536 (live m)) _ _ (omega arith) (few_told (inserted (settled m) x) i (min (j + 1) 18446744073709551615))
+
+few_reordered : (m : List ℕ) (x : Link) → Few (reordered m x)
+unfolding reordered
+few_reordered m x =
+    given_holds Any Few (meeting m x).answer _ _ tt (few_moved (meeting m x).memory x (cell m places x.to) (cell m places x.from))
+    (λ y _. few_round (meeting m x).memory x y)
+
+few_linked : (m : List ℕ) (l : Link) → Few (linked m l)
+unfolding linked
+few_linked m l =
+    given_holds Any Few (slots_found m l) _ _ tt (omega arith) (λ x _.
+    given_holds Any Few (entry_found m x) _ _ tt
+    (cond_holds Few (eqb x.from x.to) _ _ (omega arith)
+    (cond_holds Few (ltb (cell m places x.to) (cell m places x.from)) _ _ (few_reordered m x) (omega arith)))
+    (λ e _. omega arith))
+
+few_places : (m : List ℕ) (a b : ℕ) → Few (shown_places m a b)
+few_places m a b =
+    given_holds Any Few (place_found m a) _ _ tt (omega arith) (λ p _.
+    given_holds Any Few (place_found m b) _ _ tt (omega arith) (λ q _. omega arith))
+
+few_said : (m : List ℕ) (c : Command) → Few (said m c)
+unfolding said
+few_said m (Comes k) = omega arith
+few_said m (Goes k) = omega arith
+few_said m (Links l) = few_linked m l
+few_said m (Unlinks l) = omega arith
+few_said m (Places a b) = few_places m a b
+
+few_on : (m : List ℕ) → Few (went_on m)
+unfolding went_on
+few_on m = cond_holds Few (eqb (pending m) 3) _ _ (few_told m (cell m tally 5) (cell m tally 6)) (omega arith)
+
+pub few_answer : (m : List ℕ) (ev : Event) → Few (answer m ev)
+unfolding answer
+few_answer m (Said c) = cond_holds Few (eqb (pending m) 0) _ _ (few_said m c) (omega arith)
+few_answer m Next = few_on m
+
+-- what is put at the front of a part stands at the front of the whole
+pub front_stands : (n : ℕ) (ks out : List ℕ) → length ks ≤ n → n ≤ length out →
+    (ks ++ drop (length ks) (take n out)) ++ drop n out ≡ ks ++ drop (length ks) out
+front_stands n ks out l u =
+    append_assoc ks (drop (length ks) (take n out)) (drop n out)
+    ∙ ap (λ (xs : List ℕ). ks ++ xs)
+    (sym (drop-append-le (length ks) (take n out) (drop n out) (omega (arith, length-take-le n out u)))
+    ∙ ap (λ (xs : List ℕ). drop (length ks) xs) (take-append-drop n out))
