@@ -75,18 +75,17 @@ impl Player {
     // Says a command, and writes the line that answers it.
     fn answer(&mut self, command: Command) -> anyhow::Result<()> {
         let played = play(self.memory.as_mut_slice(), command, self.out.as_mut_slice());
-        if let Some(reason) = played.refused {
-            let number = reason.number();
-            write!(self.lines, "refused {number}")?;
-            if played.shown > 0 {
-                self.lines.push_str(": ")?;
+        let n = match played.refused {
+            Some(reason) => {
+                let number = u64::from(reason);
+                let way = if played.shown > 0 { ": " } else { "" };
+                write!(self.lines, "refused {number}{way}")?;
+                played.shown
             }
-        }
-        let mut n = played.shown as usize;
-        if n == 0 && played.refused.is_none() {
-            n = read_row(self.memory.as_slice(), self.out.as_mut_slice()) as usize;
-        }
-        self.write_out(n)?;
+            None if played.shown > 0 => played.shown,
+            None => read_row(self.memory.as_slice(), self.out.as_mut_slice()),
+        };
+        self.write_out(n as usize)?;
         self.lines.push_str("\n")?;
         Ok(())
     }
