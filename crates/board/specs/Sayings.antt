@@ -5,7 +5,7 @@
 --   link_at bs         the two cards of a saying
 --   of_one bs k        a saying of one card: 0 it comes, 1 it goes
 --   of_two bs k        a saying of two cards: 2 the one before the other, 3 that needn't be, 4 their places
---   first_saying bs    what stands at the front of the bytes: a saying with the number of its bytes, or that it is a byte that says nothing, or the beginning of a saying
+--   first_saying bs    the saying at the front of the bytes, with the number of its bytes; or why there is none: a byte that says nothing, or a beginning of a saying
 --   said_first bs      the saying at the front, or why there is none
 --   behind_first bs    what stands behind it; nothing, if there is none
 --   Next bs o rest     who reads saying by saying has o next, and then what is left
@@ -40,19 +40,11 @@ first_saying bs =
     cond (length bs == 0) (Err Cut)
     (cond (nat_le (slice_index bs 0) 1) (of_one bs (slice_index bs 0)) (cond (nat_le (slice_index bs 0) 4) (of_two bs (slice_index bs 0)) (Err (Unknown (slice_index bs 0)))))
 
-abbrev pub said : Result (Command × ℕ) SayingError → Result Command SayingError
-said (Ok p) = Ok p.0
-said (Err e) = Err e
-
-abbrev pub behind : Result (Command × ℕ) SayingError → List ℕ → List ℕ
-behind (Ok p) bs = drop p.1 bs
-behind (Err e) bs = []
-
 abbrev pub said_first : List ℕ → Result Command SayingError
-said_first bs = said (first_saying bs)
+said_first bs = elim (first_saying bs) [ Ok p ↦ Ok p.0 | Err e ↦ Err e ]
 
 abbrev pub behind_first : List ℕ → List ℕ
-behind_first bs = behind (first_saying bs) bs
+behind_first bs = elim (first_saying bs) [ Ok p ↦ drop p.1 bs | Err e ↦ [] ]
 
 abbrev pub Next : List ℕ → Option (Result Command SayingError) → List ℕ → Type 0
 Next bs o rest = (o ≡ cond (length bs == 0) None (Some (said_first bs))) × (rest ≡ behind_first bs)

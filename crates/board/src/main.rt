@@ -100,7 +100,7 @@ impl Player {
 
 // Plays all sayings; an error names the saying by its number, counted from 1.
 fn play_all(rt: &HostRuntime, player: &mut Player, bytes: &[u8]) -> anyhow::Result<()> {
-    for (number, saying) in (1..=usize::MAX).zip(Sayings::of(bytes)) {
+    for (number, saying) in (1u64..).zip(Sayings::of(bytes)) {
         player.answer(saying.context(format_args!("saying {number}"))?)?;
         if player.lines.len() > 65536 {
             player.print(rt)?;
