@@ -3,14 +3,18 @@
 
 mod sayings;
 
-use anyhow::{Context, bail};
+use anyhow::Context;
 use keeper::{MEMORY, OUTPUT, play, read_row};
+use program::Program;
 use row::Command;
-use sayings::{Front, first};
+use sayings::Sayings;
 use std::fmt::Write;
-use std::io::Read;
 use std::process::ExitCode;
-use std::{env, fs};
+
+const BOARD: Program = Program {
+    name: "board",
+    help: HELP,
+};
 
 const HELP: &str = "\
 usage: board FILE
@@ -71,18 +75,17 @@ impl Player {
     // Says a command, and writes the line that answers it.
     fn answer(&mut self, command: Command) -> anyhow::Result<()> {
         let played = play(self.memory.as_mut_slice(), command, self.out.as_mut_slice());
-        if let Some(reason) = played.refused {
-            let number = reason.number();
-            write!(self.lines, "refused {number}")?;
-            if played.shown > 0 {
-                self.lines.push_str(": ")?;
+        let n = match played.refused {
+            Some(reason) => {
+                let number = u64::from(reason);
+                let way = if played.shown > 0 { ": " } else { "" };
+                write!(self.lines, "refused {number}{way}")?;
+                played.shown
             }
-        }
-        let mut n = played.shown as usize;
-        if n == 0 && played.refused.is_none() {
-            n = read_row(self.memory.as_slice(), self.out.as_mut_slice()) as usize;
-        }
-        self.write_out(n)?;
+            None if played.shown > 0 => played.shown,
+            None => read_row(self.memory.as_slice(), self.out.as_mut_slice()),
+        };
+        self.write_out(n as usize)?;
         self.lines.push_str("\n")?;
         Ok(())
     }
@@ -97,19 +100,8 @@ impl Player {
 
 // Plays all sayings; an error names the saying by its number, counted from 1.
 fn play_all(rt: &HostRuntime, player: &mut Player, bytes: &[u8]) -> anyhow::Result<()> {
-    let mut at = 0;
-    for number in 1..=bytes.len() {
-        if at >= bytes.len() {
-            break;
-        }
-        match first(&bytes[at..]) {
-            Front::Saying(command, taken) => {
-                player.answer(command)?;
-                at = at.saturating_add(taken);
-            }
-            Front::Unknown(kind) => bail!("saying {number}: the byte {kind} says nothing"),
-            Front::Cut => bail!("saying {number}: the input ends inside it"),
-        }
+    for (number, saying) in (1u64..).zip(Sayings::of(bytes)) {
+        player.answer(saying.context(format_args!("saying {number}"))?)?;
         if player.lines.len() > 65536 {
             player.print(rt)?;
         }
@@ -124,41 +116,6 @@ fn play_bytes(rt: &HostRuntime, bytes: &[u8]) -> anyhow::Result<()> {
     played
 }
 
-fn play_file(rt: &HostRuntime, path: &str) -> anyhow::Result<()> {
-    let bytes = fs::read(rt, path).context(path)?;
-    play_bytes(rt, bytes.as_slice())
-}
-
-fn play_input(rt: &HostRuntime) -> anyhow::Result<()> {
-    let mut bytes = Vec::new(rt.alloc());
-    let _n = rt.stdin().read_to_end(&mut bytes)?;
-    play_bytes(rt, bytes.as_slice())
-}
-
-fn argument(rt: &HostRuntime) -> anyhow::Result<Option<String>> {
-    let mut args = env::args(rt)?;
-    let _program = args.next();
-    let word = args.next();
-    if args.next().is_some() {
-        bail!("more than one file; see board --help");
-    }
-    Ok(word)
-}
-
-fn run(rt: &HostRuntime) -> anyhow::Result<()> {
-    let Some(word) = argument(rt)? else {
-        return play_input(rt);
-    };
-    if word.as_str() == "--help" {
-        return Ok(rt.print(HELP)?);
-    }
-    play_file(rt, word.as_str())
-}
-
 fn main(rt: HostRuntime) -> ExitCode {
-    let Err(e) = run(&rt) else {
-        return ExitCode::SUCCESS;
-    };
-    let _ = eprintln!(rt; "board: {e:#}");
-    ExitCode::FAILURE
+    BOARD.run(&rt, play_bytes)
 }

@@ -1,84 +1,90 @@
 // Sayings as bytes: a byte for what is said, and one or two cards, numbers of two bytes each, the low byte first.
-ghost use Rattle.std.specs.Prelude.{◌≡◌, ◌≤◌};
-ghost use Rattle.board.specs.Sayings.{card_at, link_at, of_one, of_two, first_saying};
+ghost use Rattle.std.specs.Prelude.{◌≡◌, length, drop, ok_or, OnOk};
+ghost use Rattle.std.specs.Iterator.{at_most};
+ghost use Rattle.board.specs.Sayings.{card_at, cards_at, said_first, behind_first, Next};
+ghost use Rattle.board.specs.declared.sayings.SayingError.TheVariants.{Cut};
 
 use row::{Command, Link};
+use thiserror::Error;
 
-// What stands at the front of the bytes: a saying and how many bytes it has, a byte that says nothing, or the beginning of a saying.
-#[derive(Clone, Copy)]
-pub(crate) enum Front {
-    Saying(Command, usize),
+// Why no saying stands at the front of the bytes.
+#[derive(Debug, Drop, Error)]
+pub(crate) enum SayingError {
+    #[error("the byte {0} says nothing")]
     Unknown(u8),
+    #[error("the input ends inside it")]
     Cut,
 }
 
-// The card whose number begins at `at`.
-fn card_at(bytes: &[u8], at: usize) -> Option<u64>
-    requires { at ≤ 3 }
-    ensures { result ≡ card_at bytes.now at }
-{
-    if at + 1 < bytes.len() {
-        Some(u64::from(bytes[at]) + 256 * u64::from(bytes[at + 1]))
-    } else {
-        None
+// The sayings that the bytes spell, one after the other. Behind one that can't be read comes nothing.
+#[derive(Drop)]
+pub(crate) struct Sayings<'a> {
+    rest: &'a [u8],
+}
+
+impl<'a> Sayings<'a> {
+    pub(crate) fn of(bytes: &'a [u8]) -> Sayings<'a>
+        ensures { result.rest.now ≡ bytes.now }
+    {
+        Sayings { rest: bytes }
+    }
+
+    // Takes a card from the front.
+    fn card(&mut self) -> Result<u64, SayingError>
+        ensures card { result ≡ ok_or (card_at self.old.rest.now 0) Cut }
+        ensures rest { OnOk result (self.new.rest.now ≡ drop 2 self.old.rest.now) }
+    {
+        let (number, rest) = self.rest.split_first_chunk::<2>().ok_or(SayingError::Cut)?;
+        self.rest = rest;
+        Ok(u64::from(u16::from_le_bytes(*number)))
+    }
+
+    // Takes two cards from the front.
+    fn link(&mut self) -> Result<Link, SayingError>
+        ensures link { result ≡ ok_or (cards_at self.old.rest.now 0) Cut }
+        ensures rest { OnOk result (self.new.rest.now ≡ drop 4 self.old.rest.now) }
+    {
+        let from = self.card()?;
+        let to = self.card()?;
+        Ok(Link { from, to })
+    }
+
+    // Takes a saying from the front.
+    fn command(&mut self) -> Result<Command, SayingError>
+        ensures command { result ≡ said_first self.old.rest.now }
+        ensures rest { OnOk result (self.new.rest.now ≡ behind_first self.old.rest.now) }
+    {
+        let (kind, rest) = self.rest.split_first().ok_or(SayingError::Cut)?;
+        self.rest = rest;
+        match *kind {
+            0 => Ok(Command::Comes(self.card()?)),
+            1 => Ok(Command::Goes(self.card()?)),
+            2 => Ok(Command::Link(self.link()?)),
+            3 => Ok(Command::Unlink(self.link()?)),
+            4 => {
+                let Link { from, to } = self.link()?;
+                Ok(Command::Places(from, to))
+            }
+            unknown => Err(SayingError::Unknown(unknown)),
+        }
     }
 }
 
-// The two cards of a saying.
-fn link_at(bytes: &[u8]) -> Option<Link>
-    ensures { result ≡ link_at bytes.now }
-{
-    let Some(from) = card_at(bytes, 1) else {
-        return None;
-    };
-    let Some(to) = card_at(bytes, 3) else {
-        return None;
-    };
-    Some(Link { from, to })
-}
+impl<'a> Iterator for Sayings<'a> {
+    type Item = Result<Command, SayingError>;
 
-// A saying of one card.
-fn one(bytes: &[u8], kind: u8) -> Front
-    ensures { result ≡ of_one bytes.now kind }
-{
-    let Some(card) = card_at(bytes, 1) else {
-        return Front::Cut;
-    };
-    if kind == 0 {
-        return Front::Saying(Command::Comes(card), 3);
-    }
-    Front::Saying(Command::Goes(card), 3)
-}
+    ghost next_gives = { λ s r t. Next s.rest.now r t.rest.now };
 
-// A saying of two cards.
-fn two(bytes: &[u8], kind: u8) -> Front
-    ensures { result ≡ of_two bytes.now kind }
-{
-    let Some(link) = link_at(bytes) else {
-        return Front::Cut;
-    };
-    if kind == 2 {
-        return Front::Saying(Command::Link(link), 5);
-    }
-    if kind == 3 {
-        return Front::Saying(Command::Unlink(link), 5);
-    }
-    Front::Saying(Command::Places(link.from, link.to), 5)
-}
+    ghost remaining = { λ s. at_most (length s.rest.now) };
 
-// The first saying.
-pub(crate) fn first(bytes: &[u8]) -> Front
-    ensures { result ≡ first_saying bytes.now }
-{
-    if bytes.len() == 0 {
-        return Front::Cut;
+    fn next(&mut self) -> Option<Result<Command, SayingError>> {
+        if self.rest.is_empty() {
+            return None;
+        }
+        let saying = self.command();
+        if saying.is_err() {
+            self.rest = &[];
+        }
+        Some(saying)
     }
-    let kind = bytes[0];
-    if kind <= 1 {
-        return one(bytes, kind);
-    }
-    if kind <= 4 {
-        return two(bytes, kind);
-    }
-    Front::Unknown(kind)
 }

@@ -1,39 +1,38 @@
 // A command with what is to come of it.
-use row::{Command, Link};
+use row::{Command, Link, Refusal};
 
-// What is said; the number of the reason, if it's to be refused; the numbers that are to be shown.
+// What is said; whether it is to be done, or else why not; the numbers that are to be shown.
 #[derive(Clone, Copy)]
 pub(crate) struct Case<'a> {
     pub command: Command,
-    pub refused: Option<u64>,
+    pub outcome: Result<(), Refusal>,
     pub shown: &'a [u64],
 }
 
 pub(crate) fn done(command: Command) -> Case<'static> {
     Case {
         command,
-        refused: None,
+        outcome: Ok(()),
         shown: &[],
     }
 }
 
-pub(crate) fn refused(command: Command, number: u64) -> Case<'static> {
+pub(crate) fn refused(command: Command, refusal: Refusal) -> Case<'static> {
     Case {
-        command,
-        refused: Some(number),
-        shown: &[],
+        outcome: Err(refusal),
+        ..done(command)
     }
 }
 
 // The command is to be refused, since it would go round by this way.
 pub(crate) fn round<'a>(command: Command, way: &'a [u64]) -> Case<'a> {
     Case {
-        command,
-        refused: Some(5),
         shown: way,
+        ..refused(command, Refusal::Cycle)
     }
 }
 
+// These two only shorten the tests: with the variant as a parameter each use of them would be longer.
 pub(crate) fn link(from: u64, to: u64) -> Command {
     Command::Link(Link { from, to })
 }

@@ -1,7 +1,7 @@
 // As many cards and links as there may be.
 use crate::cases::{done, link, refused, round, unlink};
 use crate::player::Player;
-use row::{Command, Link};
+use row::{Command, Link, Refusal};
 use std::process::Abort;
 use std::test::Fail;
 
@@ -22,16 +22,16 @@ fn nth_link(n: u64) -> Link {
     }
 }
 
-fn fill(rt: &impl Abort, player: &mut Player) -> Result<(), Fail> {
+// Says this of each link in turn.
+fn say_of_all<F: Fn(Link) -> Command>(
+    rt: &impl Abort,
+    player: &mut Player,
+    said: F,
+) -> Result<(), Fail>
+    requires { F.IsAlwaysCallable said }
+{
     for n in 0..LINKS {
-        player.play(rt, done(Command::Link(nth_link(n))))?;
-    }
-    Ok(())
-}
-
-fn empty(rt: &impl Abort, player: &mut Player) -> Result<(), Fail> {
-    for n in 0..LINKS {
-        player.play(rt, done(Command::Unlink(nth_link(n))))?;
+        player.play(rt, done(said(nth_link(n))))?;
     }
     Ok(())
 }
@@ -39,21 +39,21 @@ fn empty(rt: &impl Abort, player: &mut Player) -> Result<(), Fail> {
 #[test]
 fn all_links(rt: HostRuntime) -> Result<(), Fail> {
     let mut player = Player::with_cards(&rt, 8192)?;
-    fill(&rt, &mut player)?;
+    say_of_all(&rt, &mut player, Command::Link)?;
     player.play_all(
         &rt,
         &[
-            refused(link(100, 200), 7),
-            refused(link(8191, 0), 7),
-            refused(link(0, 1), 4),
+            refused(link(100, 200), Refusal::Full),
+            refused(link(8191, 0), Refusal::Full),
+            refused(link(0, 1), Refusal::Exists),
             round(link(1, 0), &[0, 1]),
         ],
     )?;
-    empty(&rt, &mut player)?;
+    say_of_all(&rt, &mut player, Command::Unlink)?;
     player.play_all(
         &rt,
         &[
-            refused(unlink(0, 1), 3),
+            refused(unlink(0, 1), Refusal::Missing),
             done(link(1, 0)),
             done(link(8191, 1)),
         ],
@@ -66,12 +66,12 @@ fn all_cards(rt: HostRuntime) -> Result<(), Fail> {
     player.play_all(
         &rt,
         &[
-            refused(Command::Comes(8192), 7),
-            refused(Command::Comes(8191), 4),
-            refused(Command::Goes(8192), 3),
+            refused(Command::Comes(8192), Refusal::Full),
+            refused(Command::Comes(8191), Refusal::Exists),
+            refused(Command::Goes(8192), Refusal::Missing),
             done(Command::Goes(0)),
             done(Command::Comes(8192)),
-            refused(Command::Comes(0), 7),
+            refused(Command::Comes(0), Refusal::Full),
         ],
     )
 }

@@ -1,5 +1,5 @@
 // What the keeper refuses.
-use crate::cases::{Case, link, refused, round, unlink};
+use crate::cases::{Case, done, link, refused, round, unlink};
 use crate::player::Player;
 use keeper::{Act, Event, MEMORY, OUTPUT, Reason, step};
 use row::{Command, Refusal};
@@ -8,12 +8,7 @@ use std::test::Fail;
 
 // Whether all are sevens.
 fn are_sevens(numbers: &[u64]) -> bool {
-    for number in numbers.iter() {
-        if *number != 7 {
-            return false;
-        }
-    }
-    true
+    numbers.iter().all(|number| *number == 7)
 }
 
 // Sees that a step with so much memory and output is refused as unfit, and changes nothing.
@@ -25,20 +20,10 @@ fn check_unfit(
 ) -> Result<(), Fail> {
     let mut memory = vec![in rt.alloc(); 7u64; memory]?;
     let mut out = vec![in rt.alloc(); 7u64; out]?;
-    let act = step(memory.as_mut_slice(), event, out.as_mut_slice());
-    assert!(rt; is_same(act, Act::Refused(Reason::Unfit)));
+    let answer = step(memory.as_mut_slice(), event, out.as_mut_slice());
+    assert_eq!(rt; answer, Err(Reason::Unfit));
     assert!(rt; are_sevens(memory.as_slice()) && are_sevens(out.as_slice()));
     Ok(())
-}
-
-fn is_same(act: Act, other: Act) -> bool {
-    match (act, other) {
-        (Act::Tells(at, n), Act::Tells(from, count)) => at == from && n == count,
-        (Act::Shows(n), Act::Shows(count)) => n == count,
-        (Act::Done, Act::Done) => true,
-        (Act::Refused(reason), Act::Refused(cause)) => reason.number() == cause.number(),
-        _ => false,
-    }
 }
 
 // Goes one step, and sees that the answer is what is due, and that nothing changes where it says that the keeper is idle or busy.
@@ -47,12 +32,11 @@ fn check_step(
     player: &mut Player,
     number: usize,
     event: Event,
-    due: Act,
+    due: Result<Act, Reason>,
 ) -> Result<(), Fail> {
     let before = player.memory().to_vec(rt.alloc())?;
-    let act = player.step(rt, event);
-    assert!(rt; is_same(act, due), "step {number}");
-    if let Act::Refused(Reason::Idle | Reason::Busy) = act {
+    assert_eq!(rt; player.step(rt, event), due, "step {number}");
+    if let Err(Reason::Idle | Reason::Busy) = due {
         assert!(rt; before.as_slice() == player.memory(), "step {number}");
     }
     Ok(())
@@ -62,7 +46,7 @@ fn check_step(
 fn check_steps(
     rt: &(impl Abort + AllocGlobal),
     player: &mut Player,
-    steps: &[(Event, Act)],
+    steps: &[(Event, Result<Act, Reason>)],
 ) -> Result<(), Fail> {
     for (i, (event, due)) in steps.iter().enumerate() {
         check_step(rt, player, i, *event, *due)?;
@@ -88,13 +72,13 @@ fn idle_and_busy_telling(rt: HostRuntime) -> Result<(), Fail> {
         &rt,
         &mut player,
         &[
-            (Event::Next, Act::Refused(Reason::Idle)),
-            (Event::Said(link(8191, 0)), Act::Tells(0, 4096)),
-            (goes, Act::Refused(Reason::Busy)),
-            (Event::Next, Act::Tells(4096, 4096)),
-            (goes, Act::Refused(Reason::Busy)),
-            (Event::Next, Act::Done),
-            (Event::Next, Act::Refused(Reason::Idle)),
+            (Event::Next, Err(Reason::Idle)),
+            (Event::Said(link(8191, 0)), Ok(Act::Tells(0, 4096))),
+            (goes, Err(Reason::Busy)),
+            (Event::Next, Ok(Act::Tells(4096, 4096))),
+            (goes, Err(Reason::Busy)),
+            (Event::Next, Ok(Act::Done)),
+            (Event::Next, Err(Reason::Idle)),
         ],
     )
 }
@@ -107,13 +91,13 @@ fn busy_showing(rt: HostRuntime) -> Result<(), Fail> {
         &rt,
         &mut player,
         &[
-            (Event::Said(Command::Places(1, 0)), Act::Shows(2)),
-            (goes, Act::Refused(Reason::Busy)),
-            (Event::Next, Act::Done),
-            (Event::Said(link(1, 1)), Act::Shows(1)),
-            (goes, Act::Refused(Reason::Busy)),
-            (Event::Next, Act::Refused(Reason::Board(Refusal::Cycle))),
-            (Event::Next, Act::Refused(Reason::Idle)),
+            (Event::Said(Command::Places(1, 0)), Ok(Act::Shows(2))),
+            (goes, Err(Reason::Busy)),
+            (Event::Next, Ok(Act::Done)),
+            (Event::Said(link(1, 1)), Ok(Act::Shows(1))),
+            (goes, Err(Reason::Busy)),
+            (Event::Next, Err(Reason::Board(Refusal::Cycle))),
+            (Event::Next, Err(Reason::Idle)),
         ],
     )
 }
@@ -124,21 +108,31 @@ fn not_there_or_there_already(rt: HostRuntime) -> Result<(), Fail> {
     player.play_all(
         &rt,
         &[
-            refused(Command::Goes(2), 3),
-            refused(link(0, 2), 3),
-            refused(link(2, 0), 3),
-            refused(link(2, 2), 3),
-            refused(unlink(0, 1), 3),
-            refused(unlink(2, 0), 3),
-            refused(Command::Places(0, 2), 3),
-            refused(Command::Places(2, 0), 3),
-            refused(Command::Comes(1), 4),
+            refused(Command::Goes(2), Refusal::Missing),
+            refused(link(0, 2), Refusal::Missing),
+            refused(link(2, 0), Refusal::Missing),
+            refused(link(2, 2), Refusal::Missing),
+            refused(unlink(0, 1), Refusal::Missing),
+            refused(unlink(2, 0), Refusal::Missing),
+            refused(Command::Places(0, 2), Refusal::Missing),
+            refused(Command::Places(2, 0), Refusal::Missing),
+            refused(Command::Comes(1), Refusal::Exists),
             round(link(1, 1), &[1]),
             Case {
-                command: Command::Places(1, 0),
-                refused: None,
                 shown: &[1, 0],
+                ..done(Command::Places(1, 0))
             },
         ],
     )
+}
+
+#[test]
+fn numbers(rt: HostRuntime) {
+    assert_eq!(rt; u64::from(Reason::Unfit), 0);
+    assert_eq!(rt; u64::from(Reason::Idle), 1);
+    assert_eq!(rt; u64::from(Reason::Busy), 2);
+    assert_eq!(rt; u64::from(Reason::Board(Refusal::Missing)), 3);
+    assert_eq!(rt; u64::from(Reason::Board(Refusal::Exists)), 4);
+    assert_eq!(rt; u64::from(Reason::Board(Refusal::Cycle)), 5);
+    assert_eq!(rt; u64::from(Reason::Board(Refusal::Full)), 7);
 }

@@ -1,38 +1,22 @@
 // Links come and go, and the row is put right for them.
 use crate::cases::{done, link, refused, round, unlink};
 use crate::player::Player;
-use row::Command;
+use row::{Command, Refusal};
 use std::process::Abort;
 use std::test::Fail;
 
 // Whether cards stand in the row as they came, but for two that changed places.
 fn have_changed_places(row: &[u64], one: u64, other: u64) -> bool {
-    for (place, card) in row.iter().enumerate() {
-        let place = place as u64;
-        let due = if place == one {
+    let due = (0..row.len() as u64).map(|place| {
+        if place == one {
             other
         } else if place == other {
             one
         } else {
             place
-        };
-        if *card != due {
-            return false;
         }
-    }
-    true
-}
-
-// Whether the cards are the numbers from `first` on.
-fn are_from(cards: &[u64], first: u64) -> bool {
-    let mut due = first;
-    for card in cards.iter() {
-        if *card != due {
-            return false;
-        }
-        due = due.saturating_add(1);
-    }
-    true
+    });
+    row.iter().copied().eq(due)
 }
 
 // Makes a link from each of these cards to the next one.
@@ -50,9 +34,9 @@ fn said_twice_and_taken_back(rt: HostRuntime) -> Result<(), Fail> {
         &rt,
         &[
             done(link(2, 0)),
-            refused(link(2, 0), 4),
+            refused(link(2, 0), Refusal::Exists),
             done(unlink(2, 0)),
-            refused(unlink(2, 0), 3),
+            refused(unlink(2, 0), Refusal::Missing),
             done(link(2, 0)),
             round(link(0, 2), &[2, 0]),
         ],
@@ -72,7 +56,7 @@ fn comes_again_without_links(rt: HostRuntime) -> Result<(), Fail> {
             round(link(2, 0), &[0, 1, 2]),
             done(Command::Goes(1)),
             done(Command::Comes(1)),
-            refused(unlink(0, 1), 3),
+            refused(unlink(0, 1), Refusal::Missing),
             done(link(2, 0)),
             done(link(1, 2)),
             round(link(0, 1), &[1, 2, 0]),
@@ -106,7 +90,7 @@ fn round_through_all(rt: HostRuntime) -> Result<(), Fail> {
     chain(&rt, &mut player, 0, 8191)?;
     let way = player.row().to_vec(rt.alloc())?;
     player.play(&rt, round(link(8191, 0), way.as_slice()))?;
-    assert!(rt; are_from(way.as_slice(), 0));
+    assert!(rt; way.iter().copied().eq(0..8192));
     Ok(())
 }
 
@@ -117,7 +101,7 @@ fn halves_change_places(rt: HostRuntime) -> Result<(), Fail> {
     chain(&rt, &mut player, 4096, 8191)?;
     player.play(&rt, done(link(8191, 0)))?;
     let row = player.row();
-    assert!(rt; player.told() == 2 && row.len() == 8192);
-    assert!(rt; are_from(&row[0..4096], 4096) && are_from(&row[4096..8192], 0));
+    assert_eq!(rt; player.told(), 2);
+    assert!(rt; row.iter().copied().eq((4096..8192).chain(0..4096)));
     Ok(())
 }

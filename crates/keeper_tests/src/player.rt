@@ -1,6 +1,6 @@
 // A player says commands to a keeper, and keeps the row by what it is told.
 use crate::cases::{Case, done};
-use keeper::{Act, Event, MEMORY, OUTPUT, step};
+use keeper::{Act, Event, MEMORY, OUTPUT, Reason, step};
 use row::{Command, len, tell};
 use std::process::Abort;
 use std::test::Fail;
@@ -39,14 +39,14 @@ impl Player {
     }
 
     // One step of the keeper. What it tells is taken over into the row.
-    pub(crate) fn step(&mut self, rt: &impl Abort, event: Event) -> Act {
-        let act = step(self.memory.as_mut_slice(), event, self.out.as_mut_slice());
+    pub(crate) fn step(&mut self, rt: &impl Abort, event: Event) -> Result<Act, Reason> {
+        let act = step(self.memory.as_mut_slice(), event, self.out.as_mut_slice())?;
         match act {
             Act::Tells(at, n) => self.hear(rt, at, n),
             Act::Shows(n) => self.shown = n,
-            _ => {}
+            Act::Done => {}
         }
-        act
+        Ok(act)
     }
 
     // Takes what is told over into the row.
@@ -62,11 +62,8 @@ impl Player {
 
     // Takes a card out of the row.
     fn strike(&mut self, card: u64) {
-        for i in 0..self.row.len() {
-            if i < self.row.len() && self.row[i] == card {
-                self.row.remove(i);
-                return;
-            }
+        if let Some(place) = self.row.iter().position(|other| *other == card) {
+            self.row.remove(place);
         }
     }
 
@@ -84,22 +81,19 @@ impl Player {
     pub(crate) fn is_told_right(&mut self) -> bool {
         let n = len(self.memory.as_slice());
         let told = tell(self.memory.as_slice(), 0, n, self.standing.as_mut_slice());
-        told == n
-            && self.row.len() as u64 == n
-            && self.standing.as_slice().starts_with(self.row.as_slice())
+        told == n && self.standing.get(..n as usize) == Some(self.row.as_slice())
     }
 
-    // Says a command, and goes on up to its end; the number of the reason, if it's refused.
-    fn say(&mut self, rt: &impl Abort, command: Command) -> Result<Option<u64>, Fail> {
-        let mut event = Event::Said(command);
-        for _i in 0..4u8 {
+    // Says a command, and goes on up to its end.
+    fn say(&mut self, rt: &impl Abort, command: Command) -> Result<Result<(), Reason>, Fail> {
+        for event in [Event::Said(command), Event::Next, Event::Next, Event::Next] {
             match self.step(rt, event) {
-                Act::Done => {
+                Ok(Act::Done) => {
                     self.follow(command)?;
-                    return Ok(None);
+                    return Ok(Ok(()));
                 }
-                Act::Refused(reason) => return Ok(Some(reason.number())),
-                _ => event = Event::Next,
+                Ok(_) => {}
+                Err(reason) => return Ok(Err(reason)),
             }
         }
         Err(Fail::new("no end"))
@@ -115,8 +109,9 @@ impl Player {
         for (i, case) in cases.iter().enumerate() {
             self.told = 0;
             self.shown = 0;
-            assert_eq!(rt; self.say(rt, case.command)?, case.refused, "case {i}");
-            assert!(rt; self.shown == case.shown.len() as u64, "case {i}");
+            let outcome = case.outcome.map_err(Reason::Board);
+            assert_eq!(rt; self.say(rt, case.command)?, outcome, "case {i}");
+            assert_eq!(rt; self.shown, case.shown.len() as u64, "case {i}");
             assert!(rt; self.out.as_slice().starts_with(case.shown), "case {i}");
             assert!(rt; self.is_told_right(), "case {i}");
         }

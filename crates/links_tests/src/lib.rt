@@ -6,7 +6,7 @@ mod tests {
     use links::{
         Chain, Meeting, find, from_of, insert, len, rebuild, remove, remove_all, step, to_of,
     };
-    use row::Link;
+    use row::{Link, Refusal};
     use std::test::Fail;
 
     // How many numbers of memory are lent.
@@ -17,16 +17,15 @@ mod tests {
         let mut count = 0u64;
         let mut sum = 0u64;
         let mut pointer = slot;
+        // No chain takes so many steps. They are counted so that the walk ends, whatever the memory holds.
         for _i in 0..200000u64 {
             match step(memory, chain, pointer) {
-                Meeting::End => {
-                    return (count, sum);
-                }
+                Meeting::End => break,
                 Meeting::Dead => {}
                 Meeting::Living { entry, next } => {
                     let other = match chain {
                         Chain::In => from_of(memory, entry),
-                        _ => to_of(memory, entry),
+                        Chain::Out | Chain::Pair => to_of(memory, entry),
                     };
                     count = count.wrapping_add(1);
                     sum = sum.wrapping_add(other);
@@ -44,7 +43,10 @@ mod tests {
         insert(memory, Link { from: 1, to: 2 });
         assert_eq!(rt; find(memory, Link { from: 1, to: 2 }), Some(0));
         assert_eq!(rt; find(memory, Link { from: 2, to: 1 }), None);
-        assert!(rt; remove(memory, Link { from: 2, to: 1 }).is_err());
+        assert_eq!(rt;
+            remove(memory, Link { from: 2, to: 1 }),
+            Err(Refusal::Missing)
+        );
         assert!(rt; remove(memory, Link { from: 1, to: 2 }).is_ok());
         assert_eq!(rt; find(memory, Link { from: 1, to: 2 }), None);
         assert_eq!(rt; len(memory), 0);

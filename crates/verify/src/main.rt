@@ -5,12 +5,16 @@ mod input;
 
 ghost use Rattle.row.specs.Kept.{Names};
 
-use anyhow::{Context, bail};
+use anyhow::{Context, ensure};
 use input::{Question, decode, split};
+use program::Program;
 use row::{Misfit, kept};
-use std::io::Read;
 use std::process::ExitCode;
-use std::{env, fs};
+
+const VERIFY: Program = Program {
+    name: "verify",
+    help: HELP,
+};
 
 const HELP: &str = "\
 usage: verify FILE
@@ -35,76 +39,36 @@ If the input can't be read, or ends inside a number or before all its cards
 have come, a message on standard error says so, and the status is 1.
 ";
 
-// Prints the reply to a question on these links.
-fn print(
-    rt: &HostRuntime,
-    links: &[u64],
-    reply: Result<Option<u64>, Misfit>,
-) -> anyhow::Result<()>
+// Prints what was found out about these links.
+fn print(rt: &HostRuntime, links: &[u64], reply: Result<Option<u64>, Misfit>) -> anyhow::Result<()>
     requires { Names links.now reply }
 {
     match reply {
         Ok(None) => println!(rt; "kept")?,
         Ok(Some(i)) => {
-            let at = 2 * i as usize;
-            let from = links[at];
-            let to = links[at + 1];
+            let (links, _half) = links.as_chunks::<2>();
+            let [from, to] = links[i as usize];
             println!(rt; "broken {i}: {from} {to}")?
         }
-        Err(misfit) => println!(rt; "refused {}", u64::from(misfit))?,
+        Err(misfit) => {
+            let number = u64::from(misfit);
+            println!(rt; "refused {number}")?
+        }
     }
     Ok(())
 }
 
 fn answer(rt: &HostRuntime, bytes: &[u8]) -> anyhow::Result<()> {
-    if bytes.len() % 2 == 1 {
-        bail!("the input ends inside a number");
-    }
-    let mut numbers = vec![in rt.alloc(); 0u64; bytes.len() / 2]?;
-    decode(bytes, numbers.as_mut_slice());
-    let Some(Question { row, links }) = split(numbers.as_slice()) else {
-        bail!("the input ends before all its cards have come");
-    };
+    ensure!(bytes.len() % 2 == 0, "the input ends inside a number");
+    let numbers = decode(rt.alloc(), bytes)?;
+    let Question { row, links } = split(numbers.as_slice()).context(
+        "the input ends before all its cards have come",
+    )?;
     print(rt, links, kept(row, links))
 }
 
-fn answer_file(rt: &HostRuntime, path: &str) -> anyhow::Result<()> {
-    let bytes = fs::read(rt, path).context(path)?;
-    answer(rt, bytes.as_slice())
-}
-
-fn answer_input(rt: &HostRuntime) -> anyhow::Result<()> {
-    let mut bytes = Vec::new(rt.alloc());
-    let _n = rt.stdin().read_to_end(&mut bytes)?;
-    answer(rt, bytes.as_slice())
-}
-
-fn argument(rt: &HostRuntime) -> anyhow::Result<Option<String>> {
-    let mut args = env::args(rt)?;
-    let _program = args.next();
-    let word = args.next();
-    if args.next().is_some() {
-        bail!("more than one file; see verify --help");
-    }
-    Ok(word)
-}
-
-fn run(rt: &HostRuntime) -> anyhow::Result<()> {
-    let Some(word) = argument(rt)? else {
-        return answer_input(rt);
-    };
-    if word.as_str() == "--help" {
-        return Ok(rt.print(HELP)?);
-    }
-    answer_file(rt, word.as_str())
-}
-
 fn main(rt: HostRuntime) -> ExitCode {
-    let Err(e) = run(&rt) else {
-        return ExitCode::SUCCESS;
-    };
-    let _ = eprintln!(rt; "verify: {e:#}");
-    ExitCode::FAILURE
+    VERIFY.run(&rt, answer)
 }
 
 #[cfg(test)]
@@ -130,8 +94,14 @@ mod tests {
     #[test]
     fn replies(rt: HostRuntime) {
         for (name, row, links, reply) in CASES {
-            assert!(rt; kept(row, links) == reply, "{name}");
+            assert_eq!(rt; kept(row, links), reply, "{name}");
         }
+    }
+
+    #[test]
+    fn numbers(rt: HostRuntime) {
+        assert_eq!(rt; u64::from(Misfit::HalfLink), 1);
+        assert_eq!(rt; u64::from(Misfit::TooMany), 2);
     }
 
     #[test]
@@ -142,9 +112,9 @@ mod tests {
         let links = &all[0..131072];
         let longer = &links[0..65537];
         let row = &longer[0..65536];
-        assert!(rt; kept(longer, &[]) == Err(Misfit::TooMany), "a card too many");
-        assert!(rt; kept(&[], all) == Err(Misfit::TooMany), "a link too many");
-        assert!(rt; kept(row, links) == Ok(Some(0)), "just as many");
+        assert_eq!(rt; kept(longer, &[]), Err(Misfit::TooMany), "a card too many");
+        assert_eq!(rt; kept(&[], all), Err(Misfit::TooMany), "a link too many");
+        assert_eq!(rt; kept(row, links), Ok(Some(0)), "just as many");
         Ok(())
     }
 }

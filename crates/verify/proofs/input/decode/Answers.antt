@@ -1,9 +1,11 @@
-use Rattle.std.proofs.Common.{arith}
-use Rattle.verify.proofs.Numbers.{written_more, written_all}
+use Rattle.std.proofs.Common.{◌≡◌, IfOk, map, rules}
+use Rattle.std.specs.Int.{w16, from_le_bytes}
+use Rattle.verify.proofs.Numbers.{spelled}
+use Rattle.verify.specs.Input.{numbers_of}
 use Rattle.verify.proofs.input.decode.Goals as goal
 
-pub loop-i-preserved : goal.loop-i-preserved
-loop-i-preserved c = let e = written_more c.args.bytes.now c.loop-i.numbers _ c.loop-i.i (omega arith) (omega arith) c.loop-i.invariant in cc
-
 pub returns : goal.returns
-returns c = written_all c.args.bytes.now c.loop-i.numbers _ c.loop-i.i (omega arith) (omega arith) c.loop-i.invariant
+returns c =
+    let all : IfOk c.collect.result (λ numbers. numbers.items ≡ map (from_le_bytes w16) c.as_chunks.result.0.now) = search rules in
+    let same : map (from_le_bytes w16) c.as_chunks.result.0.now ≡ numbers_of c.args.bytes.now = rw c.as_chunks.ensures.front (spelled c.args.bytes.now) in
+    rw same at all
