@@ -27,7 +27,7 @@ impl Named {
 
     // Widened to two places, of one more link's first card and of its second.
     #[tactic(auto, unfolding(crate::specs::Checking::widened))]
-    fn to(self, first: u64, second: u64) -> Named
+    fn widened(self, first: u64, second: u64) -> Named
         ensures { result ≡ widened self first second }
     {
         Named {
@@ -84,7 +84,7 @@ fn widen(memory: &[u64], link: Link, named: Named) -> Named
     let Some(slots) = slots_of(memory, link) else {
         return named;
     };
-    named.to(place_at(memory, slots.from), place_at(memory, slots.to))
+    named.widened(place_at(memory, slots.from), place_at(memory, slots.to))
 }
 
 // The part of the row from the first card that a link names to the last.
