@@ -19,6 +19,7 @@ use Rattle.links.specs.Entries.{joins, found as entry_found}
 use Rattle.keeper.specs.Linking.{slots_found}
 use Rattle.batch.specs.declared.seating.Span.{Span}
 use Rattle.batch.specs.declared.checking.Named.{Named}
+use Rattle.std.specs.List.{fold}
 
 abbrev pub all_found : List ℕ → List Link → Bool
 all_found m ls = every (λ l. is_some (slots_found m l)) ls
@@ -42,8 +43,7 @@ unfoldable pub wider : List ℕ → Link → Named → Named
 wider m l s = given (slots_found m l) s (λ x. widened s (cell m places x.from) (cell m places x.to))
 
 unfoldable pub spanned : List ℕ → List Link → Named → Named
-spanned m [] s = s
-spanned m (l ∷ ls) s = spanned m ls (wider m l s)
+spanned m ls s = fold (λ x l. wider m l x) s ls
 
 abbrev pub no_span : Named
 no_span = record { span = record { low = 8192; high = 0 }; back = false }

@@ -26,6 +26,7 @@ use Rattle.keeper.specs.Linking.{slots_found}
 use Rattle.keeper.specs.Reordering.{round_cards}
 use Rattle.keeper.specs.Playing.{fronted}
 use Rattle.batch.specs.declared.joining.Round.{Round}
+use Rattle.std.specs.List.{fold}
 
 pub record Joined : Type 0 where
   pub memory : List ℕ
@@ -60,8 +61,7 @@ unfoldable pub dropped : List ℕ → Link → List ℕ
 dropped m l = given (slots_found m l) m (λ x. (removed m x).memory)
 
 unfoldable pub taken_out : List ℕ → List Link → List ℕ
-taken_out m [] = m
-taken_out m (l ∷ ls) = taken_out (dropped m l) ls
+taken_out m ls = fold dropped m ls
 
 abbrev pub way_count : Option (List ℕ) → Option ℕ
 way_count None = None

@@ -70,7 +70,7 @@ fn drop_link(memory: &mut [u64], link: Link)
 }
 
 // Takes the links out of the table.
-#[tactic(auto, using(crate::proofs::Trying::takes))]
+#[tactic(auto, unfolding(crate::specs::Joining::taken_out))]
 pub(crate) fn take_out(memory: &mut [u64], batch: &[Link])
     ensures { memory.new ≡ taken_out memory.old batch.now }
 {
