@@ -6,7 +6,6 @@ use Rattle.row.specs.Columns.{cell, written, apart, wiped}
 use Rattle.row.specs.Layout.{slots, places}
 use Rattle.row.proofs.Cells.{length_written, cell_apart}
 use Rattle.links.specs.Layout.{froms, tos}
-use Rattle.row.specs.Columns.{wiped}
 use Rattle.links.specs.Building.{blanked}
 use Rattle.search.specs.Layout.{fore}
 use Rattle.search.specs.Marks.{added}

@@ -1,33 +1,17 @@
 -- The loops over a batch that look at each link, step by step.
-use Rattle.std.proofs.Common.{◌≡◌, ℕ, ◌+◌, ◌<◌, ◌≤◌, Bool, true, false, ◌&&◌, ◌||◌, List, [], ◌∷◌, ◌++◌, length, get_or, take, drop, sym, refl, ap, ◌∙◌}
+use Rattle.std.proofs.Common.{◌≡◌, ℕ, ◌+◌, ◌<◌, ◌≤◌, Bool, true, false, ◌||◌, List, [], ◌∷◌, ◌++◌, length, get_or, take, drop, sym, refl, ap, ◌∙◌}
 use Rattle.std.proofs.lemmas.List.{at_drop_more, at_drop_all, take_more}
-use Rattle.std.proofs.lemmas.List.Recursion.{same_from_clauses}
-use Rattle.std.specs.List.{list_all, list_any, fold}
+use Rattle.std.specs.List.{list_any}
 use Rattle.row.specs.declared.board.Link.{Link}
-use Rattle.row.specs.Lists.{every, any}
 use Rattle.links.specs.Entries.{joins}
-use Rattle.batch.specs.declared.checking.Named.{Named}
-use Rattle.batch.specs.Checking.{known, repeated, wider, spanned}
-
-pub every_is : {X : Type 0} (f : X → Bool) (xs : List X) → every f xs ≡ list_all f xs
-unfolding every
-every_is f xs = same_from_clauses (every f) (list_all f) (λ x b. f x && b) refl (λ x xs. refl) (λ x xs. refl) xs
-
-pub any_is : {X : Type 0} (f : X → Bool) (xs : List X) → any f xs ≡ list_any f xs
-unfolding any
-any_is f xs = same_from_clauses (any f) (list_any f) (λ x b. f x || b) refl (λ x xs. refl) (λ x xs. refl) xs
-
-pub spanned_is : (m : List ℕ) (ls : List Link) (s : Named) → spanned m ls s ≡ fold (λ s l. wider m l s) s ls
-unfolding spanned
-spanned_is m [] s = refl
-spanned_is m (l ∷ ls) s = spanned_is m ls (wider m l s)
+use Rattle.batch.specs.Checking.{known, repeated}
 
 module _ (m : List ℕ) (ls : List Link) (i : ℕ) (h : i < length ls) where
   abbrev d : Link
   d = record { from = 0; to = 0 }
 
   abbrev seen : Bool
-  seen = known m (get_or ls i d) || any (joins (get_or ls i d)) (take i ls)
+  seen = known m (get_or ls i d) || list_any (joins (get_or ls i d)) (take i ls)
 
   step : repeated m (take i ls) (drop i ls) ≡ (seen || repeated m (take i ls ++ get_or ls i d ∷ []) (drop (i + 1) ls))
   unfolding repeated

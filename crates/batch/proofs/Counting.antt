@@ -11,7 +11,6 @@ use Rattle.links.specs.Layout.{live, end, froms, tos}
 use Rattle.links.specs.Chains.{dead}
 use Rattle.links.specs.Entries.{link_at}
 use Rattle.links.specs.Meaning.{edges_of}
-use Rattle.row.specs.Columns.{wiped}
 use Rattle.links.specs.Building.{blanked}
 use Rattle.links.proofs.Edging.{edges_more}
 use Rattle.links.proofs.Emptying.{length_blanked, blanked_apart}

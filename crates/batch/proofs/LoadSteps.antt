@@ -1,10 +1,9 @@
 -- The loops that fill the memory, step by step.
 use Rattle.std.proofs.Common.{◌≡◌, ℕ, ◌+◌, ◌<◌, ◌≤◌, List, length, get_or, drop, Some, None, Ok, Err, refl, ◌∙◌}
 use Rattle.std.proofs.lemmas.List.{at_drop_more, at_drop_all}
-use Rattle.row.specs.declared.board.Link.{Link}
 use Rattle.row.specs.declared.board.Refusal.{Refusal}
 use Rattle.row.specs.Moves.{came}
-use Rattle.batch.specs.Loading.{cards_come, put_one, put_all}
+use Rattle.batch.specs.Loading.{cards_come}
 
 module _ (m ks : List ℕ) (i : ℕ) where
   pub cards_on : (s : ℕ) → i < length ks → (came m (get_or ks i 0)).answer ≡ Ok s →
@@ -22,14 +21,3 @@ module _ (m ks : List ℕ) (i : ℕ) where
   cards_end h = at_drop_all (cards_come m) ks i h
 
 pub ruleset cards = (cards_on, cards_up, cards_end)
-
-module _ (m : List ℕ) (ls : List Link) (i : ℕ) where
-  pub put_on : i < length ls → put_all m (drop i ls) ≡ put_all (put_one m (get_or ls i (record { from = 0; to = 0 }))) (drop (i + 1) ls)
-  unfolding put_all
-  put_on h = at_drop_more (put_all m) ls i _ h
-
-  pub put_end : length ls ≤ i → put_all m (drop i ls) ≡ m
-  unfolding put_all
-  put_end h = at_drop_all (put_all m) ls i h
-
-pub ruleset puts = (put_on, put_end)

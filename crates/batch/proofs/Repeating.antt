@@ -1,5 +1,7 @@
 -- Of links between cards that are there, one is repeated just if it was said before.
-use Rattle.std.proofs.Common.{◌≡◌, ℕ, true, List, [], ◌∷◌, ◌++◌, sym, refl, ◌∙◌, subst, append_assoc, append-nil}
+use Rattle.std.proofs.Common.{Bool, ◌||◌, ap, ◌≡◌, ℕ, true, List, [], ◌∷◌, ◌++◌, sym, refl, ◌∙◌, subst, append_assoc, append-nil}
+use Rattle.std.specs.List.{list_any}
+use Rattle.row.specs.Lists.{any}
 use Rattle.row.specs.declared.board.Link.{Link}
 use Rattle.row.specs.Board.{Board}
 use Rattle.links.specs.Entries.{joins}
@@ -12,6 +14,11 @@ use Rattle.batch.specs.CheckLaws.{Repeats}
 use Rattle.batch.proofs.GoingOn.{there_parts}
 use Rattle.batch.proofs.CardsThere.{known_so}
 
+any_is : {X : Type 0} (f : X → Bool) (xs : List X) → any f xs ≡ list_any f xs
+unfolding any
+any_is f [] = refl
+any_is f (x ∷ xs) = ap (λ (b : Bool). f x || b) (any_is f xs)
+
 module _ (m : List ℕ) (R : Ready m) where
   abbrev r : Board
   r = card_board m
@@ -22,7 +29,7 @@ module _ (m : List ℕ) (R : Ready m) where
   repeats_behind ps [] t = refl
   repeats_behind ps (l ∷ ls) t =
       let h = there_parts r l ls t in
-      rw (known_so m R l h.0 h.1, any_append (joins l) r.links ps, repeats_behind (ps ++ l ∷ []) ls h.2) (simp append_assoc)
+      rw (known_so m R l h.0 h.1, ← any_is (joins l) ps, any_append (joins l) r.links ps, repeats_behind (ps ++ l ∷ []) ls h.2) (simp append_assoc)
 
 pub repeats : Repeats
 repeats m r ls M t =

@@ -4,7 +4,7 @@ use Rattle.std.proofs.lemmas.List.{at_drop_more, at_drop_all}
 use Rattle.row.specs.declared.board.Link.{Link}
 use Rattle.row.specs.Lookup.{given}
 use Rattle.batch.specs.declared.joining.Round.{Round}
-use Rattle.batch.specs.Joining.{joined, Tried, tried, dropped, taken_out, unless, way_count, round_of}
+use Rattle.batch.specs.Joining.{joined, Tried, tried, unless, way_count, round_of}
 
 -- what a function has answered says what stands in the way
 pub unless_ok : {X : Type 0} (o : Option X) (z : Unit {0}) → unless o ≡ Ok z → o ≡ None
@@ -57,14 +57,3 @@ module _ (m : List ℕ) (ls : List Link) (i : ℕ) (h : length ls ≤ i) where
   pub tried_end : (k : ℕ) → tried m (drop i ls) k ≡ record { memory = m; count = k; way = None }
   unfolding tried
   tried_end k = at_drop_all (λ (xs : List Link). tried m xs k) ls i h
-
-module _ (m : List ℕ) (ls : List Link) (i : ℕ) where
-  pub taken_on : i < length ls → taken_out m (drop i ls) ≡ taken_out (dropped m (get_or ls i (record { from = 0; to = 0 }))) (drop (i + 1) ls)
-  unfolding taken_out
-  taken_on h = at_drop_more (taken_out m) ls i _ h
-
-  pub taken_end : length ls ≤ i → taken_out m (drop i ls) ≡ m
-  unfolding taken_out
-  taken_end h = at_drop_all (taken_out m) ls i h
-
-pub ruleset takes = (taken_on, taken_end)

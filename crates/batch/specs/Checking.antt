@@ -11,7 +11,6 @@
 --   span m ls             the part of the row that may change for the links; None: none has to
 use Rattle.std.specs.Prelude.{ℕ, ◌+◌, min, max, Bool, false, cond, ◌||◌, List, [], ◌∷◌, ◌++◌, Some, None, Option, is_some, nat_le}
 use Rattle.row.specs.declared.board.Link.{Link}
-use Rattle.row.specs.Lists.{every, any}
 use Rattle.row.specs.Columns.{cell}
 use Rattle.row.specs.Layout.{places}
 use Rattle.row.specs.Lookup.{given}
@@ -19,16 +18,17 @@ use Rattle.links.specs.Entries.{joins, found as entry_found}
 use Rattle.keeper.specs.Linking.{slots_found}
 use Rattle.batch.specs.declared.seating.Span.{Span}
 use Rattle.batch.specs.declared.checking.Named.{Named}
+use Rattle.std.specs.List.{fold, list_all, list_any}
 
 abbrev pub all_found : List ℕ → List Link → Bool
-all_found m ls = every (λ l. is_some (slots_found m l)) ls
+all_found m ls = list_all (λ l. is_some (slots_found m l)) ls
 
 unfoldable pub known : List ℕ → Link → Bool
 known m l = given (slots_found m l) false (λ x. is_some (entry_found m x))
 
 unfoldable pub repeated : List ℕ → List Link → List Link → Bool
 repeated m ps [] = false
-repeated m ps (l ∷ ls) = (known m l || any (joins l) ps) || repeated m (ps ++ l ∷ []) ls
+repeated m ps (l ∷ ls) = (known m l || list_any (joins l) ps) || repeated m (ps ++ l ∷ []) ls
 
 -- a place and the one behind it fit 64 bits
 abbrev pub behind : ℕ → ℕ
@@ -42,8 +42,7 @@ unfoldable pub wider : List ℕ → Link → Named → Named
 wider m l s = given (slots_found m l) s (λ x. widened s (cell m places x.from) (cell m places x.to))
 
 unfoldable pub spanned : List ℕ → List Link → Named → Named
-spanned m [] s = s
-spanned m (l ∷ ls) s = spanned m ls (wider m l s)
+spanned m ls s = fold (λ x l. wider m l x) s ls
 
 abbrev pub no_span : Named
 no_span = record { span = record { low = 8192; high = 0 }; back = false }

@@ -11,7 +11,9 @@
 --   way_count o       how many cards are shown of a way; way_cards o: which
 --   round_of t        the link that would go round, if one would: how many were put in before it, and how many cards are shown of the way
 --   unless o          done, unless something stands in the way
-use Rattle.std.specs.Prelude.{ℕ, ◌+◌, cond, List, [], ◌∷◌, length, Some, None, Ok, Err, Option, Result, ◌==◌, nat_lt}
+--   JoinedSo j out    what a link that was tried comes to is j: done, or the way shown at the front of the output, and the memory after it
+--   TriedSo t out     the same of links that were tried
+use Rattle.std.specs.Prelude.{◌≡◌, ℕ, ◌+◌, cond, List, [], ◌∷◌, length, Some, None, Ok, Err, Option, Result, ◌==◌, nat_lt}
 use Rattle.row.specs.declared.board.Link.{Link}
 use Rattle.row.specs.Columns.{cell}
 use Rattle.row.specs.Layout.{places}
@@ -22,7 +24,9 @@ use Rattle.search.specs.Hunt.{meeting}
 use Rattle.search.specs.Settle.{forgotten, settled}
 use Rattle.keeper.specs.Linking.{slots_found}
 use Rattle.keeper.specs.Reordering.{round_cards}
+use Rattle.keeper.specs.Playing.{fronted}
 use Rattle.batch.specs.declared.joining.Round.{Round}
+use Rattle.std.specs.List.{fold}
 
 pub record Joined : Type 0 where
   pub memory : List ℕ
@@ -57,8 +61,7 @@ unfoldable pub dropped : List ℕ → Link → List ℕ
 dropped m l = given (slots_found m l) m (λ x. (removed m x).memory)
 
 unfoldable pub taken_out : List ℕ → List Link → List ℕ
-taken_out m [] = m
-taken_out m (l ∷ ls) = taken_out (dropped m l) ls
+taken_out m ls = fold dropped m ls
 
 abbrev pub way_count : Option (List ℕ) → Option ℕ
 way_count None = None
@@ -74,3 +77,13 @@ round_of t = given t.way None (λ ks. Some (record { count = t.count; shown = le
 abbrev pub unless : {X : Type 0} → Option X → Result (Unit {0}) X
 unless None = Ok tt
 unless (Some x) = Err x
+
+pub record JoinedSo (j : Joined) (out₀ : List ℕ) (r : Result (Unit {0}) ℕ) (m₁ out₁ : List ℕ) : Type 0 where
+  pub is : r ≡ unless (way_count j.way)
+  pub after : m₁ ≡ j.memory
+  pub out : out₁ ≡ fronted (way_cards j.way) out₀
+
+pub record TriedSo (t : Tried) (out₀ : List ℕ) (r : Result (Unit {0}) Round) (m₁ out₁ : List ℕ) : Type 0 where
+  pub is : r ≡ unless (round_of t)
+  pub after : m₁ ≡ t.memory
+  pub out : out₁ ≡ fronted (way_cards t.way) out₀

@@ -16,6 +16,7 @@ use Rattle.row.specs.Moves.{came}
 use Rattle.links.specs.Building.{inserted}
 use Rattle.keeper.specs.Linking.{slots_found}
 use Rattle.batch.specs.Checking.{all_found}
+use Rattle.std.specs.List.{fold}
 
 pub record Loaded : Type 0 where
   pub memory : List ℕ
@@ -34,8 +35,7 @@ unfoldable pub put_one : List ℕ → Link → List ℕ
 put_one m l = given (slots_found m l) m (λ x. inserted m x)
 
 unfoldable pub put_all : List ℕ → List Link → List ℕ
-put_all m [] = m
-put_all m (l ∷ ls) = put_all (put_one m l) ls
+put_all m ls = fold put_one m ls
 
 unfoldable pub links_come : List ℕ → List Link → Loaded
 links_come m ls =

@@ -1,6 +1,6 @@
 // What is looked at before links are tried: whether their cards are there, whether one was said already, and which part of the row they name.
 ghost use Rattle.std.specs.Prelude.{◌≡◌, ◌||◌, []};
-ghost use Rattle.row.specs.Lists.{any};
+ghost use Rattle.std.specs.List.{list_any};
 ghost use Rattle.links.specs.Entries.{joins};
 ghost use Rattle.batch.specs.Checking.{all_found, known, repeated, widened, wider, spanned, no_span, span};
 
@@ -27,7 +27,7 @@ impl Named {
 
     // Widened to two places, of one more link's first card and of its second.
     #[tactic(auto, unfolding(crate::specs::Checking::widened))]
-    fn to(self, first: u64, second: u64) -> Named
+    fn widened(self, first: u64, second: u64) -> Named
         ensures { result ≡ widened self first second }
     {
         Named {
@@ -56,9 +56,8 @@ fn is_known(memory: &[u64], link: Link) -> bool
 }
 
 // Whether the link was said already, or is one of these.
-#[tactic(auto, using(crate::proofs::Checks::any_is))]
 fn is_said(memory: &[u64], before: &[Link], link: Link) -> bool
-    ensures { result ≡ (known memory.now link || any (joins link) before.now) }
+    ensures { result ≡ (known memory.now link || list_any (joins link) before.now) }
 {
     is_known(memory, link) || before.contains(&link)
 }
@@ -84,10 +83,11 @@ fn widen(memory: &[u64], link: Link, named: Named) -> Named
     let Some(slots) = slots_of(memory, link) else {
         return named;
     };
-    named.to(place_at(memory, slots.from), place_at(memory, slots.to))
+    named.widened(place_at(memory, slots.from), place_at(memory, slots.to))
 }
 
 // The part of the row from the first card that a link names to the last.
+#[tactic(auto, unfolding(crate::specs::Checking::spanned))]
 fn spanned(memory: &[u64], batch: &[Link]) -> Named
     ensures { result ≡ spanned memory.now batch.now no_span }
 {

@@ -1,7 +1,6 @@
 // Links are tried one after the other, and taken out again.
 ghost use Rattle.std.specs.Prelude.{◌≡◌, ◌≤◌, length, IfErr};
-ghost use Rattle.keeper.specs.Playing.{fronted};
-ghost use Rattle.batch.specs.Joining.{joined_slots, joined, tried, dropped, taken_out, unless, way_count, way_cards, round_of};
+ghost use Rattle.batch.specs.Joining.{joined_slots, joined, JoinedSo, tried, TriedSo, dropped, taken_out};
 
 use crate::layout::Output;
 use keeper::slots_of;
@@ -20,9 +19,7 @@ pub(crate) struct Round {
 // to the front of `out`.
 #[tactic(auto, using(search::proofs::Joining::shown_is), unfolding(crate::specs::Joining::joined_slots, keeper::specs::Reordering::round_cards))]
 fn join_slots(memory: &mut [u64], slots: Link, out: &mut Output) -> Result<(), u64>
-    ensures is { result ≡ unless (way_count (joined_slots memory.old slots).way) }
-    ensures after { memory.new ≡ (joined_slots memory.old slots).memory }
-    ensures out { out.new ≡ fronted (way_cards (joined_slots memory.old slots).way) out.old }
+    ensures { JoinedSo (joined_slots memory.old slots) out.old result memory.new out.new }
 {
     if place_at(memory, slots.to) < place_at(memory, slots.from) {
         if let Some(joint) = meet(memory, slots) {
@@ -37,9 +34,7 @@ fn join_slots(memory: &mut [u64], slots: Link, out: &mut Output) -> Result<(), u
 // The same for a link between cards. A card before itself goes round: it is the way alone.
 #[tactic(auto, unfolding(crate::specs::Joining::joined))]
 fn join(memory: &mut [u64], link: Link, out: &mut Output) -> Result<(), u64>
-    ensures is { result ≡ unless (way_count (joined memory.old link).way) }
-    ensures after { memory.new ≡ (joined memory.old link).memory }
-    ensures out { out.new ≡ fronted (way_cards (joined memory.old link).way) out.old }
+    ensures { JoinedSo (joined memory.old link) out.old result memory.new out.new }
 {
     let Some(slots) = slots_of(memory, link) else {
         return Ok(());
@@ -53,10 +48,8 @@ fn join(memory: &mut [u64], link: Link, out: &mut Output) -> Result<(), u64>
 
 // Tries the links one after the other, up to the first that goes round.
 pub(crate) fn join_all(memory: &mut [u64], batch: &[Link], out: &mut Output) -> Result<(), Round>
-    ensures is { result ≡ unless (round_of (tried memory.old batch.now 0)) }
+    ensures tried { TriedSo (tried memory.old batch.now 0) out.old result memory.new out.new }
     ensures within { IfErr result (λ round. round.count ≤ length batch.now) }
-    ensures after { memory.new ≡ (tried memory.old batch.now 0).memory }
-    ensures out { out.new ≡ fronted (way_cards (tried memory.old batch.now 0).way) out.old }
 {
     for (count, link) in batch.iter().enumerate() {
         if let Err(shown) = join(memory, *link, out) {
@@ -77,7 +70,7 @@ fn drop_link(memory: &mut [u64], link: Link)
 }
 
 // Takes the links out of the table.
-#[tactic(auto, using(crate::proofs::Trying::takes))]
+#[tactic(auto, unfolding(crate::specs::Joining::taken_out))]
 pub(crate) fn take_out(memory: &mut [u64], batch: &[Link])
     ensures { memory.new ≡ taken_out memory.old batch.now }
 {

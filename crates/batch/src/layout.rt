@@ -1,4 +1,5 @@
-// Where the columns of this crate lie in the lent memory, behind those of `search`.
+// Where the columns of this crate lie in the lent memory, behind those of `search`. There is no heap, and what is lent may hold anything: so columns of numbers
+// stand here, by place or by slot, and no lists or maps.
 use keeper::{MEMORY, OUTPUT};
 use row::Column;
 

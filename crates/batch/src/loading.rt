@@ -31,7 +31,7 @@ fn put_one(memory: &mut [u64], link: Link)
 }
 
 // So for each of the links.
-#[tactic(auto, using(crate::proofs::LoadSteps::puts))]
+#[tactic(auto, unfolding(crate::specs::Loading::put_all))]
 fn put_all(memory: &mut [u64], links: &[Link])
     ensures { memory.new ≡ put_all memory.old links.now }
 {

@@ -1,5 +1,5 @@
 // Several links are said at once, or the row is made anew.
-ghost use Rattle.std.specs.Prelude.{◌≡◌};
+ghost use Rattle.std.specs.Prelude.{◌≡◌, ◌≤◌, length, take};
 ghost use Rattle.keeper.specs.Answers.{Gives};
 ghost use Rattle.batch.specs.Own.{said_anew};
 ghost use Rattle.batch.specs.Saying.{told_span, part_aside, undone, brought, rearranged, said_several};
@@ -27,12 +27,24 @@ fn tell_span(memory: &mut Memory, span: Span, out: &mut Output) -> Result<Act, R
 
 // Links that are said at once, and the part of the row that may change for them; none, if the row keeps them already.
 #[derive(Clone, Copy)]
-struct Saying<'a> {
+struct Several<'a> {
     links: &'a [Link],
     span: Option<Span>,
 }
 
-impl<'a> Saying<'a> {
+impl<'a> Several<'a> {
+    // The first n of the links.
+    fn front(self, n: usize) -> Several<'a>
+        requires { n ≤ length self.links.now }
+        ensures links { result.links.now ≡ take n self.entry.links.now }
+        ensures span { result.span ≡ self.entry.span }
+    {
+        Several {
+            links: &self.links[..n],
+            span: self.span,
+        }
+    }
+
     // Puts the part of the row aside.
     #[tactic(auto, unfolding(crate::specs::Saying::part_aside))]
     fn save(self, memory: &mut [u64])
@@ -74,16 +86,14 @@ impl<'a> Saying<'a> {
         ensures { Gives (rearranged memory.old self.entry.links.now self.entry.span) out.old result memory.new out.new }
     {
         self.save(memory);
-        let Err(round) = join_all(memory, self.links, out) else {
-            return self.bring(memory, out);
-        };
-        let tried = Saying {
-            links: &self.links[..round.count],
-            span: self.span,
-        };
-        tried.undo(memory);
-        Pending::Round.note(memory);
-        Ok(Act::Shows(round.shown))
+        match join_all(memory, self.links, out) {
+            Ok(()) => self.bring(memory, out),
+            Err(round) => {
+                self.front(round.count).undo(memory);
+                Pending::Round.note(memory);
+                Ok(Act::Shows(round.shown))
+            }
+        }
     }
 }
 
@@ -105,11 +115,11 @@ pub(crate) fn say_several(
     if repeats(memory, batch) {
         return Err(Refusal::Exists.into());
     }
-    let saying = Saying {
+    let several = Several {
         links: batch,
         span: span_of(memory, batch),
     };
-    saying.rearrange(memory, out)
+    several.rearrange(memory, out)
 }
 
 // Makes the row anew, from the order of the cards' numbers, and tells all of it. A memory whose links go round isn't a keeper's.

@@ -14,10 +14,12 @@ returns-in-Err c =
     let w = a_way _ c.in-Err.shown (sym j.is ∙ c.in-Err.is) in
     let e = sym (tried_up l.memory c.args.batch.now l.count _ (omega arith) w.0 w.1) ∙ l.invariant.0 in
     record {
-      is = ap (λ (n : ℕ). Err (record { count = l.count; shown = n })) w.2 ∙ ap (λ (t : Tried). unless (round_of t)) e;
+      tried = record {
+        is = ap (λ (n : ℕ). Err (record { count = l.count; shown = n })) w.2 ∙ ap (λ (t : Tried). unless (round_of t)) e;
+        after = j.after ∙ ap (λ (t : Tried). t.memory) e;
+        out = j.out ∙ ap₂ (λ (ks out : List ℕ). fronted ks out) (ap way_cards w.1 ∙ ap (λ (t : Tried). way_cards t.way) e) l.invariant.1;
+      };
       within = omega arith;
-      after = j.after ∙ ap (λ (t : Tried). t.memory) e;
-      out = j.out ∙ ap₂ (λ (ks out : List ℕ). fronted ks out) (ap way_cards w.1 ∙ ap (λ (t : Tried). way_cards t.way) e) l.invariant.1;
     }
 
 pub loop-count-preserved : goal.loop-count-preserved
@@ -35,8 +37,10 @@ returns c =
     let l = c.loop-count in
     let e = sym (tried_end l.memory c.args.batch.now l.count (omega arith) l.count) ∙ l.invariant.0 in
     record {
-      is = ap (λ (t : Tried). unless (round_of t)) e;
+      tried = record {
+        is = ap (λ (t : Tried). unless (round_of t)) e;
+        after = ap (λ (t : Tried). t.memory) e;
+        out = l.invariant.1 ∙ ap (λ (t : Tried). fronted (way_cards t.way) c.args.out.now) e;
+      };
       within = tt;
-      after = ap (λ (t : Tried). t.memory) e;
-      out = l.invariant.1 ∙ ap (λ (t : Tried). fronted (way_cards t.way) c.args.out.now) e;
     }

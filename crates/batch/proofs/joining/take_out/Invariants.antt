@@ -1,6 +1,6 @@
-use Rattle.std.proofs.Common.{◌≡◌, drop}
+use Rattle.std.proofs.Common.{◌≡◌, take}
 use Rattle.batch.specs.Joining.{taken_out}
 use Rattle.batch.proofs.joining.take_out.Given as goal
 
 abbrev pub invariant-loop-link : goal.invariant-loop-link
-invariant-loop-link l = taken_out l.memory (drop l.link-index l.batch) ≡ taken_out l.initial.memory l.batch
+invariant-loop-link l = l.memory ≡ taken_out l.initial.memory (take l.link-index l.batch)
