@@ -1,11 +1,15 @@
 -- Columns of the lent memory.
 --
+--   index m c i     where i of the column c lies in the memory; nowhere past the end of either
 --   cell m c i      what stands at i of the column c, 0 past its end
 --   written m c i v the memory with v at i of the column c; the same memory past its end
 --   wiped f m c i   the memory after zeros were put at f places of the column c, from i on
 --   apart c d       the columns share no number
-use Rattle.std.specs.Prelude.{ℕ, zero, suc, ◌+◌, Bool, cond, ◌||◌, List, nat_le, nat_lt, slice_index, slice_set}
+use Rattle.std.specs.Prelude.{ℕ, zero, suc, ◌+◌, Bool, cond, ◌&&◌, ◌||◌, List, length, Some, None, Option, nat_le, nat_lt, slice_index, slice_set}
 use Rattle.row.specs.declared.column.Column.{Column}
+
+abbrev pub index : List ℕ → Column → ℕ → Option ℕ
+index m c i = cond (nat_lt i c.size && nat_lt (c.base + i) (length m)) (Some (c.base + i)) None
 
 unfoldable pub cell : List ℕ → Column → ℕ → ℕ
 cell m c i = cond (nat_lt i c.size) (slice_index m (c.base + i)) 0

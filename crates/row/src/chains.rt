@@ -33,15 +33,13 @@ pub struct Entry {
 }
 
 impl Family {
-    // The entry that a pointer holds.
+    // The entry that a pointer holds; 0 wraps round to none.
     pub fn follow(self, memory: &[u64], pointer: u64) -> Option<u64>
         ensures is { result ≡ held self.pointers self.entries memory.now pointer }
         ensures below { IfSome result (λ entry. entry < self.entries) }
     {
-        self.pointers
-            .get(memory, pointer)
-            .checked_sub(1)
-            .filter(|entry| *entry < self.entries)
+        let entry = self.pointers.get(memory, pointer).wrapping_sub(1);
+        (entry < self.entries).then_some(entry)
     }
 
     // Empties all chains; the entries still point where they did.

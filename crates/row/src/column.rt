@@ -1,6 +1,6 @@
 // A column: a run of numbers in the lent memory. Whatever the index, reading or writing a column never leaves it, so a write to one column can't
-// disturb another.
-ghost use Rattle.row.specs.Columns.{cell, written, wiped};
+// disturb another. Nothing is taken of the heap, so tables stand side by side in columns, and what they hold goes by its number.
+ghost use Rattle.row.specs.Columns.{index, cell, written, wiped};
 ghost use Rattle.std.specs.Prelude.{◌≡◌};
 
 #[derive(Clone, Copy, Debug, PartialEq, Eq)]
@@ -10,16 +10,23 @@ pub struct Column {
 }
 
 impl Column {
+    // Where `i` lies in the memory; nowhere, if it is past the column's end or the memory's.
+    fn index(self, memory: &[u64], i: u64) -> Option<usize>
+        ensures { result ≡ index memory.now self i }
+    {
+        let len = memory.len() as u64;
+        if i >= self.size || i >= len || self.base >= len - i {
+            return None;
+        }
+        Some((self.base + i) as usize)
+    }
+
     // What stands at `i`, or 0 past the column's end.
     #[tactic(auto, using(std::proofs::lemmas::List::get_or_past), unfolding(crate::specs::Columns::cell))]
     pub fn get(self, memory: &[u64], i: u64) -> u64
         ensures { result ≡ cell memory.now self i }
     {
-        let len = memory.len() as u64;
-        if i >= self.size || i >= len || self.base >= len - i {
-            return 0;
-        }
-        memory[(self.base + i) as usize]
+        self.index(memory, i).map_or(0, |at| memory[at])
     }
 
     // Puts `v` at `i`; nothing past the column's end.
@@ -27,11 +34,9 @@ impl Column {
     pub fn set(self, memory: &mut [u64], i: u64, v: u64)
         ensures { memory.new ≡ written memory.old self i v }
     {
-        let len = memory.len() as u64;
-        if i >= self.size || i >= len || self.base >= len - i {
-            return;
+        if let Some(at) = self.index(memory, i) {
+            memory[at] = v;
         }
-        memory[(self.base + i) as usize] = v;
     }
 
     // Puts 0 at each of the first `n`.

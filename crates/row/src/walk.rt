@@ -7,7 +7,7 @@ use crate::chains::{Entry, Family};
 
 // The entries of a chain, from a pointer on, each with the pointer that holds it. In a garbage memory a chain may go round: a walk has no more steps than
 // its family has entries.
-#[derive(Clone, Copy, Debug, Drop)]
+#[derive(Clone, Debug, Drop)]
 pub struct Walk<'m> {
     memory: &'m [u64],
     family: Family,
