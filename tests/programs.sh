@@ -78,6 +78,8 @@ run verify ''
 expect 'verify: nothing at all' 1 '' 'the input ends before all its cards have come'
 run verify '' no-such-file
 expect 'verify: no file' 1 '' 'no-such-file: No such file or directory (os error 2)'
+run verify '' one two
+expect 'verify: two files' 1 '' 'more than one file; see verify --help'
 helps verify
 
 echo "$passed passed, $failed failed"
