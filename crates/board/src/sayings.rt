@@ -54,8 +54,7 @@ impl<'a> Sayings<'a> {
         ensures command { result ≡ said_first self.old.rest.now }
         ensures rest { OnOk result (self.new.rest.now ≡ behind_first self.old.rest.now) }
     {
-        let (kind, rest) = self.rest.split_first().ok_or(SayingError::Cut)?;
-        self.rest = rest;
+        let kind = self.rest.split_off_first().ok_or(SayingError::Cut)?;
         match *kind {
             0 => Ok(Command::Comes(self.card()?)),
             1 => Ok(Command::Goes(self.card()?)),
