@@ -1,15 +1,12 @@
 -- The steps of the loops.
 use Rattle.std.proofs.Common.{◌≡◌, ℕ, ◌+◌, ◌-◌, ◌<◌, ◌≤◌, List, Some, None}
-use Rattle.row.specs.declared.column.Column.{Column}
-use Rattle.row.specs.Columns.{written}
 use Rattle.row.specs.Lookup.{given}
-use Rattle.row.proofs.Wiping.{wiped_go, wiped_end}
 use Rattle.row.proofs.Fuel.{fuel_step, fuel_end}
 use Rattle.links.specs.declared.chain.Chain.{Chain}
 use Rattle.links.specs.Layout.{heads}
 use Rattle.links.specs.Chains.{followed}
 use Rattle.links.specs.Entries.{buried}
-use Rattle.links.specs.Building.{blanked, carried, refilled}
+use Rattle.links.specs.Building.{carried, refilled}
 use Rattle.links.specs.Removing.{struck}
 
 struck_at : (N i : ℕ) (m : List ℕ) (c : Chain) (p : ℕ) → i < N →
@@ -29,16 +26,6 @@ unfolding struck
 struck_end N i m c p h = fuel_end (λ f. struck f m c p) N i h
 
 pub ruleset strikes = (struck_stop, struck_go, struck_end)
-
-pub blanked_go : (N i : ℕ) (m : List ℕ) (c : Column) → i < N → blanked (N - i) m c i ≡ blanked (N - (i + 1)) (written m c i 0) c (i + 1)
-unfolding blanked
-blanked_go = wiped_go
-
-pub blanked_end : (N i j : ℕ) (m : List ℕ) (c : Column) → N ≤ i → blanked (N - i) m c j ≡ m
-unfolding blanked
-blanked_end = wiped_end
-
-pub ruleset blanks = (blanked_go, blanked_end)
 
 pub refilled_go : (N i : ℕ) (m : List ℕ) → i < N → refilled (N - i) m i ≡ refilled (N - (i + 1)) (carried m i) (i + 1)
 unfolding refilled

@@ -1,7 +1,6 @@
 -- The first of two cards that is met in a row stands before the other; the links that numbers spell, as pairs.
-use Rattle.std.proofs.Common.{◌≡◌, ℕ, zero, suc, ◌+◌, ◌*◌, ◌/◌, ◌<◌, ◌≤◌, Bool, false, cond, not, ◌||◌, eqb, ltb, List, [], ◌∷◌, length, get_or, drop, slice_index, Some, None, refl, ap, ◌∙◌, arith}
+use Rattle.std.proofs.Common.{◌≡◌, ℕ, zero, suc, ◌+◌, ◌*◌, ◌/◌, ◌≤◌, Bool, false, cond, not, ◌||◌, eqb, ltb, List, [], ◌∷◌, length, slice_index, Some, None, refl, arith}
 use Rattle.std.proofs.lemmas.Bool.Decides.{nat_tests}
-use Rattle.std.proofs.lemmas.List.{drop_more}
 use Rattle.std.specs.List.{find, position_or_len}
 use Rattle.std.specs.Simd.{first_chunks}
 use Rattle.row.specs.Lists.{place}
@@ -33,10 +32,3 @@ module _ (row : List ℕ) where
 
   pub pairs_are : (ns : List ℕ) → broken_pair row (first_chunks 2 (length ns / 2) ns) ≡ first_broken row (links_of ns) 0
   pairs_are ns = let e = pairs_from (length ns / 2) ns 0 (omega arith) (omega arith) in grind arith
-
-pub two_at : (ns : List ℕ) (i : ℕ) → i < length ns / 2 → drop (2 * i) ns ≡ get_or ns (2 * i) 0 ∷ get_or ns (2 * i + 1) 0 ∷ drop (2 * (i + 1)) ns
-two_at ns i h =
-    let e : 2 * i + 1 + 1 ≡ 2 * (i + 1) = omega arith in
-    drop_more ns (2 * i) 0 (omega arith)
-    ∙ ap (λ (xs : List ℕ). get_or ns (2 * i) 0 ∷ xs) (drop_more ns (2 * i + 1) 0 (omega arith))
-    ∙ ap (λ (k : ℕ). get_or ns (2 * i) 0 ∷ get_or ns (2 * i + 1) 0 ∷ drop k ns) e
