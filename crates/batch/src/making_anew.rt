@@ -47,6 +47,7 @@ fn finish(memory: &mut [u64], out: &mut [u64]) -> Anew
 
 // Makes the row anew by the rule, with these links: the row by the rule is written to the front of `out`, or a circle, if the links go round. Whatever stood
 // in the memory is gone then.
+#[tactic(auto, using(crate::proofs::MakesAnew::makes_anew), unfolding(crate::specs::MakingAnew::made_anew, crate::specs::MakingAnew::made))]
 pub fn make_anew(
     memory: &mut [u64],
     row: &[u64],
