@@ -43,7 +43,10 @@ pub one_round : (t : Tried) (x : Round) → unless (round_of t) ≡ Err x →
     (ks : List ℕ) × (t.way ≡ Some ks) × (x ≡ record { count = t.count; shown = length ks })
 one_round t x e = one_stops t.way t.count x e
 
-module _ (m : List ℕ) (ls : List Link) (i : ℕ) (d : Link) (h : i < length ls) where
+module _ (m : List ℕ) (ls : List Link) (i : ℕ) (h : i < length ls) where
+  abbrev d : Link
+  d = record { from = 0; to = 0 }
+
   pub tried_on : (joined m (get_or ls i d)).way ≡ None → tried m (drop i ls) i ≡ tried (joined m (get_or ls i d)).memory (drop (i + 1) ls) (i + 1)
   unfolding tried
   tried_on e = at_drop_more (λ (xs : List Link). tried m xs i) ls i d h ∙ rw e refl
@@ -57,3 +60,7 @@ module _ (m : List ℕ) (ls : List Link) (i : ℕ) (h : length ls ≤ i) where
   pub tried_end : (k : ℕ) → tried m (drop i ls) k ≡ record { memory = m; count = k; way = None }
   unfolding tried
   tried_end k = at_drop_all (λ (xs : List Link). tried m xs k) ls i h
+
+pub ruleset trials = (all_in, one_round)
+
+pub ruleset trying = (no_way, a_way, tried_on, tried_up, tried_end)
