@@ -26,7 +26,7 @@ fn hear(memory: &mut Memory, event: Event, batch: &[Link], out: &mut Output) -> 
 
 // One step: the answer to an event, the memory after it, and what is told or shown at the front of `out`. The batch is read only for `Several`. The engine
 // whose steps these are meets the promise within three steps; whatever stands in the memory, its answers fit.
-#[tactic(auto, using(crate::proofs::Beginnings::took, crate::proofs::Beginnings::untook, keeper::proofs::Fitting::other_size, keeper::proofs::Fitting::short_out, crate::proofs::Wholly::whole_in_own, crate::proofs::Wholly::own_fits))]
+#[tactic(auto, using(crate::proofs::Beginnings::beginnings))]
 pub fn step(
     memory: &mut [u64],
     event: Event,
