@@ -4,6 +4,7 @@ use Rattle.std.proofs.lemmas.Bool.Decides.{nat_tests}
 use Rattle.std.proofs.lemmas.Bool.{cases_Bool, cases_eq, not-false, ltb-true}
 use Rattle.row.specs.declared.board.Link.{Link}
 use Rattle.row.specs.Columns.{cell, written}
+use Rattle.row.proofs.Walking.{held_none, held_some}
 use Rattle.row.proofs.Cells.{cell_same, cell_other, cell_apart}
 use Rattle.links.specs.declared.chain.Chain.{Chain}
 use Rattle.links.specs.declared.chain.Meeting.TheVariants.{End, Dead, Living}
@@ -21,12 +22,12 @@ use Rattle.links.proofs.Sameness.{same_pointer, edges_alike, lives_alike, holds_
 -- the entry that a pointer holds
 pub followed_none : (m : List ℕ) (c : Chain) (p : ℕ) → cell m (pointers c) p ≡ 0 → followed m c p ≡ None
 unfolding followed
-followed_none m c p h = grind (arith, nat_tests)
+followed_none m c p h = held_none (pointers c) (heads c) 67584 m p h
 
 pub followed_some : (m : List ℕ) (c : Chain) (p : ℕ) → 0 < cell m (pointers c) p → cell m (pointers c) p ≤ 67584
     → followed m c p ≡ Some (cell m (pointers c) p - 1)
 unfolding followed
-followed_some m c p h b = grind (arith, nat_tests)
+followed_some m c p h b = held_some (pointers c) (heads c) 67584 m p h b
 
 module _ (m : List ℕ) (was : ℕ → Link) (h : Holds m was) where
   -- the keys of the living are those of their links

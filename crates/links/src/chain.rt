@@ -45,13 +45,16 @@ pub fn step(memory: &mut [u64], chain: Chain, pointer: u64) -> Meeting
     ensures after { memory.new ≡ stepped memory.old chain pointer }
 {
     let family = chain.family();
-    let Some(entry) = family.follow(memory, pointer) else {
+    let Some(number) = family.follow(memory, pointer) else {
         return Meeting::End;
     };
-    if FROM.get(memory, entry) < SLOTS {
-        let next = family.heads + entry;
-        return Meeting::Living { entry, next };
+    if FROM.get(memory, number) < SLOTS {
+        let next = family.heads + number;
+        return Meeting::Living {
+            entry: number,
+            next,
+        };
     }
-    family.unlink(memory, Entry { pointer, number: entry });
+    family.unlink(memory, Entry { pointer, number });
     Meeting::Dead
 }

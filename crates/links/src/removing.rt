@@ -33,7 +33,7 @@ pub fn remove(memory: &mut [u64], link: Link) -> Result<u64, Refusal>
     Ok(entry)
 }
 
-// Marks all of a chain dead, from a pointer on.
+// Marks all of a chain dead, from a pointer on. Each turn writes to the memory, which a `Walk` would hold lent; a garbage memory may go round.
 #[tactic(auto, using(crate::proofs::Turns::strikes), unfolding(crate::specs::Chains::followed))]
 fn strike(memory: &mut [u64], chain: Chain, first: u64)
     ensures { memory.new ≡ struck 67584 memory.old chain first }

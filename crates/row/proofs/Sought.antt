@@ -1,26 +1,22 @@
 -- Seeking in a memory whose pointers spell a chain.
-use Rattle.std.proofs.Common.{◌≡◌, ℕ, zero, suc, ◌+◌, ◌-◌, ◌<◌, ◌≤◌, true, false, eqb, ltb, List, [], ◌∷◌, length, Some, None, refl, ap, ◌∙◌, inl, inr, arith}
-use Rattle.std.proofs.lemmas.Bool.Decides.{nat_tests}
+use Rattle.std.proofs.Common.{◌≡◌, ℕ, zero, suc, ◌+◌, ◌<◌, ◌≤◌, true, false, List, [], ◌∷◌, length, Some, None, refl, ap, ◌∙◌, inl, inr, arith}
 use Rattle.std.proofs.lemmas.Bool.{cases_eq, eq-eqb, ne_eqb, both_ways}
 use Rattle.row.specs.Lists.{any, has}
 use Rattle.row.specs.Columns.{cell}
 use Rattle.row.specs.Layout.{ids, chain}
 use Rattle.row.specs.Lookup.{followed, entry, sought}
 use Rattle.row.specs.Meaning.{Spells}
+use Rattle.row.proofs.Walking.{held_none, held_some}
 use Rattle.row.proofs.Chaining.{holder, has_head, has_tail, has_on}
 
 module _ (m : List ℕ) where
   pub followed_none : (p : ℕ) → cell m chain p ≡ 0 → followed m p ≡ None
   unfolding followed
-  followed_none p e = grind (arith, nat_tests)
+  followed_none p e = held_none chain 8192 8192 m p e
 
   pub followed_some : (p s : ℕ) → cell m chain p ≡ suc s → s < 8192 → followed m p ≡ Some s
   unfolding followed
-  followed_some p s e l =
-      let q : cell m chain p - 1 ≡ s = omega arith in
-      let r : ltb 8192 (cell m chain p) ≡ false = grind (arith, nat_tests) in
-      let z : eqb (cell m chain p) 0 ≡ false = grind (arith, nat_tests) in
-      rw (z, r) (ap Some q)
+  followed_some p s e l = held_some chain 8192 8192 m p (omega arith) (omega arith) ∙ ap Some (omega arith)
 
   module _ (k : ℕ) where
     stop : (f p : ℕ) → followed m p ≡ None → sought (suc f) m p k ≡ None

@@ -3,7 +3,7 @@ use Rattle.std.proofs.Common.{◌≡◌, ℕ, zero, suc, ◌+◌, ◌-◌, ◌<�
 use native.Mathlib.Nat.{sub-zero}
 use Rattle.std.specs.List.{range_with_len}
 use Rattle.std.proofs.lemmas.Bool.Decides.{nat_tests}
-use Rattle.std.proofs.lemmas.Bool.{eqb-true, eq-eqb, ne_eqb, cases_Bool, cases_eq, cases_order, both_ways, or_right, or_left, and_parts, not-true}
+use Rattle.std.proofs.lemmas.Bool.{eqb-true, eq-eqb, ne_eqb, cases_Bool, cases_eq, both_ways, or_right, or_left, and_parts, not-true}
 use Rattle.std.proofs.lemmas.List.FromFn.{take-map-range_with_len}
 use Rattle.row.specs.Lists.{any, filter, has, place, distinct}
 
@@ -74,13 +74,6 @@ made_apart f a (suc n) p q d l m u e =
       | inl i ↦ both_ways _ (not-true _ s.0) (has_made f (a + 1) n (f a) q (omega arith) (omega arith) (cc))
       | inr i ↦ made_apart f (a + 1) n p q s.1 (omega arith) m (omega arith) e
     ]
-
-pub made_one : (f : ℕ → ℕ) (a n p q : ℕ) → distinct (map f (range_with_len a n)) ≡ true → a ≤ p → p < a + n → a ≤ q → q < a + n → f p ≡ f q → p ≡ q
-made_one f a n p q d l u l₁ u₁ e = elim (cases_order p q) [
-  | inl i ↦ i
-  | inr (inl i) ↦ absurd (made_apart f a n p q d l i u₁ e)
-  | inr (inr i) ↦ absurd (made_apart f a n q p d l₁ i u (sym e))
-]
 
 -- a made list without one number: what stands behind it moves one place to the front
 filter_whole : (f : ℕ → ℕ) (k a n : ℕ) → ((p : ℕ) → a ≤ p → p < a + n → f p ≡ k → ⊥) →

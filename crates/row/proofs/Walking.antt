@@ -1,7 +1,8 @@
 -- The steps of a walk along a chain.
-use Rattle.std.proofs.Common.{◌≡◌, ℕ, zero, suc, ◌+◌, ◌-◌, ◌<◌, Bool, cond, ◌||◌, eqb, ltb, List, [], ◌∷◌, Some, None, Option, refl, inl, inr, arith}
+use Rattle.std.proofs.Common.{◌≡◌, ℕ, zero, suc, ◌+◌, ◌-◌, ◌<◌, ◌≤◌, Bool, cond, ◌||◌, eqb, ltb, List, [], ◌∷◌, Some, None, Option, refl, inl, inr, arith}
 use Rattle.std.specs.List.{find}
 use Rattle.std.specs.Option.{option_map}
+use Rattle.std.proofs.lemmas.Bool.Decides.{nat_tests}
 use Rattle.std.proofs.lemmas.Bool.{cases_Bool, or_parts, ltb-false, eqb-false, cond_both}
 use Rattle.row.specs.declared.chains.Entry.{Entry}
 use Rattle.row.specs.declared.column.Column.{Column}
@@ -52,6 +53,12 @@ module _ (c : Column) (h n : ℕ) (m : List ℕ) where
     | inl t ↦ rw t tt
     | inr t ↦ let q = or_parts (eqb (cell m c p) 0) (ltb n (cell m c p)) t in rw t (omega (arith, ltb-false _ _ q.1, eqb-false _ _ q.0))
   ]
+
+  pub held_none : (p : ℕ) → cell m c p ≡ 0 → held c n m p ≡ None
+  held_none p e = grind (arith, nat_tests)
+
+  pub held_some : (p : ℕ) → 0 < cell m c p → cell m c p ≤ n → held c n m p ≡ Some (cell m c p - 1)
+  held_some p i b = grind (arith, nat_tests)
 
   pub find_holds : (P : Option Entry → Type 0) (test : Entry → Bool) → P None → ((e : Entry) → e.number < n → P (Some e)) → (f p : ℕ) → P (find test (walked f c h n m p))
   unfolding walked

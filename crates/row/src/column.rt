@@ -1,5 +1,5 @@
 // A column: a run of numbers in the lent memory. Whatever the index, reading or writing a column never leaves it, so a write to one column can't
-// disturb another.
+// disturb another. Nothing is taken of the heap, so tables stand side by side in columns, and what they hold goes by its number.
 ghost use Rattle.row.specs.Columns.{index, cell, written, wiped};
 ghost use Rattle.std.specs.Prelude.{◌≡◌};
 

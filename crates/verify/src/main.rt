@@ -36,11 +36,7 @@ have come, a message on standard error says so, and the status is 1.
 ";
 
 // Prints the reply to a question on these links.
-fn print(
-    rt: &HostRuntime,
-    links: &[u64],
-    reply: Result<Option<u64>, Misfit>,
-) -> anyhow::Result<()>
+fn print(rt: &HostRuntime, links: &[u64], reply: Result<Option<u64>, Misfit>) -> anyhow::Result<()>
     requires { Names links.now reply }
 {
     match reply {
@@ -142,7 +138,10 @@ mod tests {
         let links = &all[0..131072];
         let longer = &links[0..65537];
         let row = &longer[0..65536];
-        assert!(rt; kept(longer, &[]) == Err(Misfit::TooMany), "a card too many");
+        assert!(rt;
+            kept(longer, &[]) == Err(Misfit::TooMany),
+            "a card too many"
+        );
         assert!(rt; kept(&[], all) == Err(Misfit::TooMany), "a link too many");
         assert!(rt; kept(row, links) == Ok(Some(0)), "just as many");
         Ok(())
