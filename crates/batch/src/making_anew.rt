@@ -12,8 +12,8 @@ use crate::renewing::renew;
 use keeper::{MEMORY, OUTPUT, Reason};
 use row::{IDS, Link};
 
-// How a row is made anew: so many cards at the front of the output are the new row; or they are a circle, each linked to the next and the last to the
-// first.
+// How a row is made anew: so many cards at the front of the output, which is lent, are the new row; or they are a circle, each linked to the next and the
+// last to the first.
 #[derive(Clone, Copy, Debug, PartialEq, Eq)]
 pub enum Anew {
     Row(u64),
