@@ -45,6 +45,7 @@ fn first_broken(row: &[u64], links: &[[u64; 2]]) -> Option<u64>
 
 // The number of the first link, counted from 0, whose first card doesn't stand before its second; none if the row keeps all links. A card that isn't in
 // the row stands behind all that are; one that is there twice stands where it is met first. Each link costs at most one look at each card.
+#[tactic(auto, using(crate::proofs::Firsts::pairs_are))]
 pub fn kept(row: &[u64], links: &[u64]) -> Result<Option<u64>, Misfit>
     ensures is { result ≡ kept_reply row.now links.now }
     ensures names { Names links.now result }

@@ -19,6 +19,7 @@ fn name_all(memory: &[u64], slots: &[u64], out: &mut [u64])
 
 // Tells the cards from `place` on, `n` of them, as the row's middle handed on: they are written to the front of `out`. Says how many: `n`, or none
 // if the row or `out` hasn't so many.
+#[tactic(auto, unfolding(crate::specs::Telling::told, crate::specs::Telling::told_count))]
 pub fn tell(memory: &[u64], place: u64, n: u64, out: &mut [u64]) -> u64
     ensures is { result ≡ told_count memory.now place n out.old }
     ensures out { out.new ≡ told memory.now place n out.old }

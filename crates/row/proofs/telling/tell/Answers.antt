@@ -6,10 +6,6 @@ use Rattle.row.specs.Telling.{told, told_count}
 use Rattle.row.proofs.Fronts.{part_is}
 use Rattle.row.proofs.telling.tell.Goals as goal
 
-pub returns-then-place-gt-CARDS : goal.returns-then-place-gt-CARDS
-unfolding told told_count
-returns-then-place-gt-CARDS c = record { is = grind (arith, nat_tests); out = grind (arith, nat_tests) }
-
 pub returns : goal.returns
 unfolding told told_count
 returns c =
