@@ -7,10 +7,12 @@ use Rattle.keeper.specs.declared.event.Act.{Act}
 use Rattle.keeper.specs.Engine.{action_of}
 use Rattle.keeper.specs.Answers.{Gives}
 use Rattle.keeper.specs.Own.{step_fits}
+use Rattle.keeper.proofs.Fitting.{other_size, short_out}
 use Rattle.keeper.proofs.Room.{front_stands}
 use Rattle.batch.specs.Engine.{Heard}
 use Rattle.batch.specs.Own.{answer, guarded, StepBy, StepSays}
 use Rattle.batch.proofs.Room.{few}
+use Rattle.batch.proofs.Wholly.{own_fits, whole_in_own}
 
 pub took : (m : List ℕ) (h : Heard) (out : List ℕ) (r : Result Act Reason) (m₁ front₁ : List ℕ) → length m ≡ 524288 → 8192 ≤ length out →
     Gives (answer m h) (take 8192 out) r m₁ front₁ → StepSays m h out r m₁ (front₁ ++ drop 8192 out)
@@ -28,3 +30,5 @@ took m h out r m₁ front₁ e u g =
 pub untook : (m : List ℕ) (h : Heard) (out : List ℕ) → step_fits m out ≡ false → StepSays m h out (Err Unfit) m out
 unfolding StepBy
 untook m h out f = subst (λ (b : Bool). StepBy b m h out (Err Unfit) m out) (sym f) (record { act = refl; memory = refl; told = refl })
+
+pub ruleset beginnings = (took, untook, other_size, short_out, own_fits, whole_in_own)

@@ -1,13 +1,11 @@
 -- The ways in which a row is made anew: refused, shown, or a circle shown.
-use Rattle.std.proofs.Common.{◌≡◌, ℕ, ◌<◌, ◌≤◌, false, List, length, replicate, Some, None, sym, ◌∙◌, Result, Ok, Err}
+use Rattle.std.proofs.Common.{◌≡◌, ℕ, ◌<◌, ◌≤◌, false, List, length, replicate, Some, None, Err}
 use Rattle.std.proofs.lemmas.Bool.{lt-ltb, le-ltb, le-leb, eq-eqb}
 use Rattle.row.specs.declared.board.Link.{Link}
 use Rattle.row.specs.declared.board.Refusal.{Refusal}
 use Rattle.row.specs.Layout.{count}
 use Rattle.keeper.specs.declared.event.Reason.TheVariants.{Unfit, Board}
 use Rattle.keeper.specs.Own.{step_fits}
-use Rattle.batch.specs.Joining.{unless}
-use Rattle.batch.proofs.Trying.{unless_ok, unless_err}
 use Rattle.batch.specs.Loading.{Loaded, loaded}
 use Rattle.batch.specs.Renewing.{renewed}
 use Rattle.batch.specs.Circling.{traced, round}
@@ -39,16 +37,3 @@ module _ (m ks : List ℕ) (ls : List Link) (out : List ℕ) where
   pub anew_fits : length m ≡ 524288 → 8192 ≤ length out → made_anew m ks ls out ≡ made (loaded (replicate (length m) 0) ks ls) out
   unfolding made_anew
   anew_fits e h = rw (eq-eqb (length m) 524288 e, le-leb 8192 (length out) h)
-
-  -- the same of what the code has come to
-  module _ (e : length m ≡ 524288) (h : 8192 ≤ length out) where
-    abbrev x : Loaded
-    x = loaded (replicate (length m) 0) ks ls
-
-    pub anew_refused : (last : List ℕ) (a : Result (Unit {0}) Refusal) (why : Refusal) → a ≡ unless x.refused → a ≡ Err why → last ≡ x.memory →
-        record { answer = Err (Board why); memory = last; out = out } ≡ made_anew m ks ls out
-    anew_refused last a why q r y = rw y (sym (anew_fits e h ∙ made_refused x out why (unless_err x.refused why (sym q ∙ r))))
-
-    pub anew_so : (last : List ℕ) (a : Result (Unit {0}) Refusal) (z : Unit {0}) → a ≡ unless x.refused → a ≡ Ok z → last ≡ x.memory →
-        ended (renewed last).memory (renewed last).came out ≡ made_anew m ks ls out
-    anew_so last a z q r y = rw y (sym (anew_fits e h ∙ made_so x out (unless_ok x.refused z (sym q ∙ r))))

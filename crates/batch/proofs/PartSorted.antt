@@ -25,9 +25,6 @@ module _ (m new : List ℕ) (low high i d : ℕ) (l : low ≤ high) (h : high �
   outside_put (inl o) = grind (arith, places)
   outside_put (inr o) = grind (arith, places)
 
-  inside_put : low ≤ i → i < high → get_or (take low m ++ (new ++ drop high m)) i d ≡ get_or new (i - low) d
-  inside_put p q = grind (arith, places)
-
 module _ (m : List ℕ) (low high : ℕ) where
   -- there is such a part, or there is none
   pub part_there : low ≤ high → high ≤ length m → sorted_part m low high ≡ take low m ++ (sorted (between low high m) ++ drop high m)

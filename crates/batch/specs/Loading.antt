@@ -1,13 +1,14 @@
 -- A memory filled from nothing, as the code goes.
 --
 --   Loaded             the memory after cards or links were put in, and why one was refused, if one was
+--   LoadedSo x         what is answered is that: done, or the refusal, and the memory after it
 --   refusal_of a       why a card was refused, if it was
 --   cards_come m ks    the cards come, one after the other, up to the first that is refused
 --   put_one m l        a link between cards put into the table, if both are there
 --   put_all m ls       so for each of the links
 --   links_come m ls    the links put in; refused if a card isn't there, or if there are too many
 --   loaded m ks ls     both
-use Rattle.std.specs.Prelude.{ℕ, cond, List, [], ◌∷◌, length, Some, None, Ok, Err, Option, Result, nat_le}
+use Rattle.std.specs.Prelude.{◌≡◌, ℕ, cond, List, [], ◌∷◌, length, Some, None, Ok, Err, Option, Result, nat_le}
 use Rattle.row.specs.declared.board.Link.{Link}
 use Rattle.row.specs.declared.board.Refusal.{Refusal}
 use Rattle.row.specs.declared.board.Refusal.TheVariants.{Missing, Full}
@@ -16,11 +17,16 @@ use Rattle.row.specs.Moves.{came}
 use Rattle.links.specs.Building.{inserted}
 use Rattle.keeper.specs.Linking.{slots_found}
 use Rattle.batch.specs.Checking.{all_found}
+use Rattle.batch.specs.Joining.{unless}
 use Rattle.std.specs.List.{fold}
 
 pub record Loaded : Type 0 where
   pub memory : List ℕ
   pub refused : Option Refusal
+
+pub record LoadedSo (x : Loaded) (r : Result (Unit {0}) Refusal) (m₁ : List ℕ) : Type 0 where
+  pub is : r ≡ unless x.refused
+  pub after : m₁ ≡ x.memory
 
 abbrev pub refusal_of : Result ℕ Refusal → Option Refusal
 refusal_of (Ok s) = None

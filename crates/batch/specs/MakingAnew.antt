@@ -1,13 +1,14 @@
 -- A row made anew from any cards and links, as the code goes.
 --
 --   Made                    what is answered, or why it is refused; the memory and the output after it
+--   MadeSo x                what is answered is that, and the memory and the output after it
 --   new_row m n             the first n slots in `spare`
 --   shown_row m n out       their cards shown
 --   shown_circle m ks out   the cards of the slots ks shown, as a circle
 --   ended m n out           one or the other, after n slots have come
 --   made x out              the row of a memory that was filled made anew; or refused, if it couldn't be filled
 --   made_anew m ks ls out   so for the cards ks and the links ls; where the memory or the output doesn't fit, refused, and nothing is changed
-use Rattle.std.specs.Prelude.{ℕ, cond, List, map, length, replicate, Ok, Err, Result, nat_lt}
+use Rattle.std.specs.Prelude.{◌≡◌, ℕ, cond, List, map, length, replicate, Ok, Err, Result, nat_lt}
 use Rattle.std.specs.List.{range_with_len}
 use Rattle.row.specs.declared.board.Link.{Link}
 use Rattle.row.specs.Columns.{cell}
@@ -28,6 +29,11 @@ pub record Made : Type 0 where
   pub answer : Result Anew Reason
   pub memory : List ℕ
   pub out : List ℕ
+
+pub record MadeSo (x : Made) (r : Result Anew Reason) (m₁ out₁ : List ℕ) : Type 0 where
+  pub answer : r ≡ x.answer
+  pub after : m₁ ≡ x.memory
+  pub out : out₁ ≡ x.out
 
 abbrev pub new_row : List ℕ → ℕ → List ℕ
 new_row m n = map (cell m spare) (range_with_len 0 n)

@@ -84,6 +84,7 @@ fn go_back(memory: &[u64], first: u64) -> u64
 }
 
 // Writes the cards of a circle to the front of `out`, each linked to the next, after n slots have come; says how many.
+#[tactic(auto, using(search::proofs::Joining::turned_front), unfolding(crate::specs::Circling::on_circle, crate::specs::Circling::round))]
 pub(crate) fn show_circle(memory: &mut [u64], n: u64, out: &mut [u64]) -> u64
     ensures is { result ≡ length (round (traced memory.old n) (length out.old)) }
     ensures after { memory.new ≡ traced memory.old n }

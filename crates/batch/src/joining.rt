@@ -47,6 +47,7 @@ fn join(memory: &mut [u64], link: Link, out: &mut Output) -> Result<(), u64>
 }
 
 // Tries the links one after the other, up to the first that goes round.
+#[tactic(auto, using(crate::proofs::Trying::trying))]
 pub(crate) fn join_all(memory: &mut [u64], batch: &[Link], out: &mut Output) -> Result<(), Round>
     ensures tried { TriedSo (tried memory.old batch.now 0) out.old result memory.new out.new }
     ensures within { IfErr result (λ round. round.count ≤ length batch.now) }

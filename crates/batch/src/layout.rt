@@ -30,7 +30,7 @@ pub const NUMBERS: Column = Column {
     size: 8192,
 };
 
-// The memory, and the front of the output, whose lengths are then known.
+// The memory, and the front of the output, whose lengths are then known. They are lent side by side: a struct that holds both by reference hides the lengths.
 pub type Memory = [u64; MEMORY];
 
 pub type Output = [u64; OUTPUT];

@@ -1,7 +1,6 @@
 // A memory filled from nothing: cards come, and links are put in.
 ghost use Rattle.std.specs.Prelude.{◌≡◌, length, replicate};
-ghost use Rattle.batch.specs.Joining.{unless};
-ghost use Rattle.batch.specs.Loading.{cards_come, put_one, put_all, links_come, loaded};
+ghost use Rattle.batch.specs.Loading.{LoadedSo, cards_come, put_one, put_all, links_come, loaded};
 
 use crate::checking::all_there;
 use keeper::{LINKS, slots_of};
@@ -11,8 +10,7 @@ use row::{Link, Refusal, comes};
 // The cards come, one after the other, up to the first that is refused.
 #[tactic(auto, using(crate::proofs::LoadSteps::cards))]
 fn bring_cards(memory: &mut [u64], row: &[u64]) -> Result<(), Refusal>
-    ensures is { result ≡ unless (cards_come memory.old row.now).refused }
-    ensures after { memory.new ≡ (cards_come memory.old row.now).memory }
+    ensures { LoadedSo (cards_come memory.old row.now) result memory.new }
 {
     for card in row {
         comes(memory, *card)?;
@@ -43,8 +41,7 @@ fn put_all(memory: &mut [u64], links: &[Link])
 // Puts the links in; refused if a card isn't there, or if there are too many.
 #[tactic(auto, unfolding(crate::specs::Loading::links_come))]
 fn bring_links(memory: &mut [u64], links: &[Link]) -> Result<(), Refusal>
-    ensures is { result ≡ unless (links_come memory.old links.now).refused }
-    ensures after { memory.new ≡ (links_come memory.old links.now).memory }
+    ensures { LoadedSo (links_come memory.old links.now) result memory.new }
 {
     if !all_there(memory, links) {
         return Err(Refusal::Missing);
@@ -59,8 +56,7 @@ fn bring_links(memory: &mut [u64], links: &[Link]) -> Result<(), Refusal>
 // Fills the memory with the cards and the links, whatever stood there.
 #[tactic(auto, unfolding(crate::specs::Loading::loaded))]
 pub(crate) fn load(memory: &mut [u64], row: &[u64], links: &[Link]) -> Result<(), Refusal>
-    ensures is { result ≡ unless (loaded (replicate (length memory.old) 0) row.now links.now).refused }
-    ensures after { memory.new ≡ (loaded (replicate (length memory.old) 0) row.now links.now).memory }
+    ensures { LoadedSo (loaded (replicate (length memory.old) 0) row.now links.now) result memory.new }
 {
     memory.fill(0);
     bring_cards(memory, row)?;

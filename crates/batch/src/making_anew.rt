@@ -3,7 +3,7 @@ ghost use Rattle.std.specs.Prelude.{◌≡◌, ◌≤◌, length, Ok};
 ghost use Rattle.search.specs.Way.{over};
 ghost use Rattle.batch.specs.AnewLaws.{MakesAnew};
 ghost use Rattle.batch.specs.Renewing.{renewed};
-ghost use Rattle.batch.specs.MakingAnew.{new_row, ended, made_anew};
+ghost use Rattle.batch.specs.MakingAnew.{MadeSo, new_row, ended, made_anew};
 
 use crate::circling::show_circle;
 use crate::layout::SPARE;
@@ -12,8 +12,8 @@ use crate::renewing::renew;
 use keeper::{MEMORY, OUTPUT, Reason};
 use row::{IDS, Link};
 
-// How a row is made anew: so many cards at the front of the output are the new row; or they are a circle, each linked to the next and the last to the
-// first.
+// How a row is made anew: so many cards at the front of the output, which is lent, are the new row; or they are a circle, each linked to the next and the
+// last to the first.
 #[derive(Clone, Copy, Debug, PartialEq, Eq)]
 pub enum Anew {
     Row(u64),
@@ -35,9 +35,7 @@ fn show_row(memory: &[u64], n: u64, out: &mut [u64])
 #[tactic(auto, unfolding(crate::specs::MakingAnew::ended))]
 fn finish(memory: &mut [u64], out: &mut [u64]) -> Anew
     requires { 8192 ≤ length out.old }
-    ensures answer { (ended (renewed memory.old).memory (renewed memory.old).came out.old).answer ≡ Ok result }
-    ensures after { memory.new ≡ (ended (renewed memory.old).memory (renewed memory.old).came out.old).memory }
-    ensures out { out.new ≡ (ended (renewed memory.old).memory (renewed memory.old).came out.old).out }
+    ensures { MadeSo (ended (renewed memory.old).memory (renewed memory.old).came out.old) (Ok result) memory.new out.new }
 {
     let n = renew(memory);
     if n < row::len(memory) {
@@ -49,15 +47,14 @@ fn finish(memory: &mut [u64], out: &mut [u64]) -> Anew
 
 // Makes the row anew by the rule, with these links: the row by the rule is written to the front of `out`, or a circle, if the links go round. Whatever stood
 // in the memory is gone then.
+#[tactic(auto, using(crate::proofs::MakesAnew::makes_anew), unfolding(crate::specs::MakingAnew::made_anew, crate::specs::MakingAnew::made))]
 pub fn make_anew(
     memory: &mut [u64],
     row: &[u64],
     links: &[Link],
     out: &mut [u64],
 ) -> Result<Anew, Reason>
-    ensures answer { result ≡ (made_anew memory.old row.now links.now out.old).answer }
-    ensures after { memory.new ≡ (made_anew memory.old row.now links.now out.old).memory }
-    ensures out { out.new ≡ (made_anew memory.old row.now links.now out.old).out }
+    ensures made { MadeSo (made_anew memory.old row.now links.now out.old) result memory.new out.new }
     ensures right { MakesAnew }
 {
     if memory.len() != MEMORY || out.len() < OUTPUT {

@@ -82,6 +82,7 @@ impl<'a> Several<'a> {
     }
 
     // Tries the links: the row is put right for all of them, or all is as it was.
+    #[tactic(auto, unfolding(crate::specs::Saying::rearranged, crate::specs::Saying::by_trial))]
     fn rearrange(self, memory: &mut Memory, out: &mut Output) -> Result<Act, Reason>
         ensures { Gives (rearranged memory.old self.entry.links.now self.entry.span) out.old result memory.new out.new }
     {
