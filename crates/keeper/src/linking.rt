@@ -1,4 +1,5 @@
-// Links are made and taken back.
+// Links are made and taken back. Each check hands on its value or leaves with the refusal, by `let .. else`: this is the form of all commands, here and in
+// the crates below, so that what is refused can be seen to have changed nothing.
 ghost use Rattle.std.specs.Prelude.{◌≡◌, Ok};
 ghost use Rattle.keeper.specs.Answers.{Gives, Ends};
 ghost use Rattle.keeper.specs.Linking.{slots_found, unlinked, put_in, shown_itself, linked};
@@ -22,12 +23,16 @@ pub fn slots_of(memory: &[u64], link: Link) -> Option<Link>
 }
 
 // Takes a link between cards back.
-#[tactic(auto, unfolding(crate::specs::Linking::unlinked, links::specs::Removing::removed))]
+#[tactic(auto, unfolding(crate::specs::Linking::unlinked))]
 pub(crate) fn unlink(memory: &mut [u64], link: Link) -> Result<Act, Reason>
     ensures { Ends (unlinked memory.old link) result memory.new }
 {
-    let slots = slots_of(memory, link).ok_or(Refusal::Missing)?;
-    remove(memory, slots)?;
+    let Some(slots) = slots_of(memory, link) else {
+        return Err(Refusal::Missing.into());
+    };
+    let Ok(_) = remove(memory, slots) else {
+        return Err(Refusal::Missing.into());
+    };
     Ok(Act::Done)
 }
 
@@ -57,10 +62,12 @@ fn show_itself(memory: &mut Memory, card: u64, out: &mut Output) -> Act
 pub(crate) fn link(memory: &mut Memory, link: Link, out: &mut Output) -> Result<Act, Reason>
     ensures { Gives (linked memory.old link) out.old result memory.new out.new }
 {
-    let slots = slots_of(memory, link).ok_or(Refusal::Missing)?;
-    if links::find(memory, slots).is_some() {
+    let Some(slots) = slots_of(memory, link) else {
+        return Err(Refusal::Missing.into());
+    };
+    let None = links::find(memory, slots) else {
         return Err(Refusal::Exists.into());
-    }
+    };
     if slots.from == slots.to {
         return Ok(show_itself(memory, link.from, out));
     }

@@ -36,8 +36,12 @@ fn leave(memory: &mut [u64], card: u64) -> Result<Act, Reason>
 fn show_places(memory: &mut Memory, a: u64, b: u64, out: &mut Output) -> Result<Act, Reason>
     ensures { Gives (shown_places memory.old a b) out.old result memory.new out.new }
 {
-    let first = place_of(memory, a).ok_or(Refusal::Missing)?;
-    let second = place_of(memory, b).ok_or(Refusal::Missing)?;
+    let Some(first) = place_of(memory, a) else {
+        return Err(Refusal::Missing.into());
+    };
+    let Some(second) = place_of(memory, b) else {
+        return Err(Refusal::Missing.into());
+    };
     out[0] = first;
     out[1] = second;
     Pending::Done.note(memory);

@@ -27,7 +27,9 @@ pub fn remove(memory: &mut [u64], link: Link) -> Result<u64, Refusal>
     ensures is { result ≡ (removed memory.old link).answer }
     ensures after { memory.new ≡ (removed memory.old link).memory }
 {
-    let entry = find(memory, link).ok_or(Refusal::Missing)?;
+    let Some(entry) = find(memory, link) else {
+        return Err(Refusal::Missing);
+    };
     bury(memory, entry);
     settle(memory);
     Ok(entry)

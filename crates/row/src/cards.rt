@@ -66,10 +66,12 @@ pub fn comes(memory: &mut [u64], card: u64) -> Result<u64, Refusal>
     ensures is { result ≡ (came memory.old card).answer }
     ensures after { memory.new ≡ (came memory.old card).memory }
 {
-    if find(memory, card).is_some() {
+    let None = find(memory, card) else {
         return Err(Refusal::Exists);
-    }
-    let place = end_of(memory).ok_or(Refusal::Full)?;
+    };
+    let Some(place) = end_of(memory) else {
+        return Err(Refusal::Full);
+    };
     let slot = take_slot(memory, place);
     enter(memory, slot, card);
     PLACES.set(memory, slot, place);
@@ -116,7 +118,9 @@ pub fn goes(memory: &mut [u64], card: u64) -> Result<u64, Refusal>
     ensures is { result ≡ (gone memory.old card).answer }
     ensures after { memory.new ≡ (gone memory.old card).memory }
 {
-    let entry = seek(memory, card).ok_or(Refusal::Missing)?;
+    let Some(entry) = seek(memory, card) else {
+        return Err(Refusal::Missing);
+    };
     withdraw(memory, entry);
     close(memory, entry.number);
     Ok(entry.number)
