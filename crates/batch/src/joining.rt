@@ -2,8 +2,7 @@
 ghost use Rattle.std.specs.Prelude.{◌≡◌, ◌≤◌, length, IfErr};
 ghost use Rattle.batch.specs.Joining.{joined_slots, joined, JoinedSo, tried, TriedSo, dropped, taken_out};
 
-use crate::layout::Output;
-use keeper::slots_of;
+use keeper::{Output, slots_of};
 use links::{insert, remove};
 use row::{Link, place_at};
 use search::{meet, settle, show_and_forget};

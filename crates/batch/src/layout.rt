@@ -1,6 +1,5 @@
 // Where the columns of this crate lie in the lent memory, behind those of `search`. There is no heap, and what is lent may hold anything: so columns of numbers
 // stand here, by place or by slot, and no lists or maps.
-use keeper::{MEMORY, OUTPUT};
 use row::Column;
 
 // How many links may be said at once.
@@ -29,8 +28,3 @@ pub const NUMBERS: Column = Column {
     base: 454208,
     size: 8192,
 };
-
-// The memory, and the front of the output, whose lengths are then known. They are lent side by side: a struct that holds both by reference hides the lengths.
-pub type Memory = [u64; MEMORY];
-
-pub type Output = [u64; OUTPUT];

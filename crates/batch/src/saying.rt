@@ -6,10 +6,10 @@ ghost use Rattle.batch.specs.Saying.{told_span, part_aside, undone, brought, rea
 
 use crate::checking::{all_there, repeats, span_of};
 use crate::joining::{join_all, take_out};
-use crate::layout::{BATCH, Memory, Output};
+use crate::layout::BATCH;
 use crate::seating::Span;
 use crate::tidying::tidy;
-use keeper::{Act, LINKS, Pending, Reason};
+use keeper::{Act, LINKS, Memory, Output, Pending, Reason};
 use row::{Link, Refusal};
 
 // Tells the part of the row.

@@ -5,9 +5,8 @@ ghost use Rattle.batch.specs.Own.{answer, own, StepSays};
 ghost use Rattle.batch.specs.Promise.{WholeIn, Fits};
 
 use crate::event::Event;
-use crate::layout::{Memory, Output};
 use crate::saying::{say_anew, say_several};
-use keeper::{Act, Pending, Reason};
+use keeper::{Act, Memory, Output, Pending, Reason};
 use row::Link;
 
 // The answer to an event.

@@ -7,9 +7,9 @@ pub const OUTPUT: usize = 8192;
 
 // The memory, and the front of the output, whose lengths are then known. They are lent side by side: a struct that holds both by reference hides the
 // lengths, and can't lend both to one call.
-pub(crate) type Memory = [u64; MEMORY];
+pub type Memory = [u64; MEMORY];
 
-pub(crate) type Output = [u64; OUTPUT];
+pub type Output = [u64; OUTPUT];
 
 // How many links there may be, and how many cards are told at once.
 pub const LINKS: u64 = 65536;

@@ -12,7 +12,7 @@ mod telling;
 mod theory;
 
 pub use event::{Act, Event, Reason};
-pub use layout::{LINKS, MEMORY, OUTPUT};
+pub use layout::{LINKS, MEMORY, Memory, OUTPUT, Output};
 pub use linking::slots_of;
 pub use pending::Pending;
 pub use playing::{Played, play, play_on, read_row};

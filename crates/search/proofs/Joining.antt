@@ -25,12 +25,6 @@ module _ (name : ℕ → ℕ) (ks was : List ℕ) (k : ℕ) (l : k ≡ length ks
       ap (λ (xs : List ℕ). xs ++ drop k out) (r ∙ ap reverse t ∙ sym (map_turned name ks []))
       ∙ ap (λ (xs : List ℕ). map name (reverse ks) ++ xs) d
 
-  pub turned : (out rev : List ℕ) → out ≡ map name ks ++ drop k was → rev ≡ reverse (take (k - 0) out) →
-      rev ++ post_of 0 (k - 0) out ≡ map name (reverse ks) ++ drop k was
-  turned out rev e r =
-      let z : k - 0 ≡ k = omega arith in
-      ap (λ n. rev ++ post_of 0 n out) z ∙ turned_front out rev e (r ∙ ap (λ n. reverse (take n out)) z)
-
   module _ (rest : ℕ → List ℕ) (mid : List ℕ) (e : mid ≡ map name (reverse ks) ++ drop k was) where
     abbrev part : List ℕ
     part = take (length mid - k) (drop k mid)
