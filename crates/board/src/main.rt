@@ -8,6 +8,7 @@ use keeper::{MEMORY, OUTPUT, play, read_row};
 use program::Program;
 use row::Command;
 use sayings::Sayings;
+use std::env;
 use std::fmt::Write;
 use std::process::ExitCode;
 
@@ -117,5 +118,5 @@ fn play_bytes(rt: &HostRuntime, bytes: &[u8]) -> anyhow::Result<()> {
 }
 
 fn main(rt: HostRuntime) -> ExitCode {
-    BOARD.run(&rt, play_bytes)
+    BOARD.run(&rt, env::args(&rt), play_bytes)
 }
