@@ -76,15 +76,15 @@ impl Player {
     // Says a command, and writes the line that answers it.
     fn answer(&mut self, command: Command) -> anyhow::Result<()> {
         let played = play(self.memory.as_mut_slice(), command, self.out.as_mut_slice());
-        let n = match played.refused {
-            Some(reason) => {
+        let n = match played.outcome {
+            Err(reason) => {
                 let number = u64::from(reason);
                 let way = if played.shown > 0 { ": " } else { "" };
                 write!(self.lines, "refused {number}{way}")?;
                 played.shown
             }
-            None if played.shown > 0 => played.shown,
-            None => read_row(self.memory.as_slice(), self.out.as_mut_slice()),
+            Ok(()) if played.shown > 0 => played.shown,
+            Ok(()) => read_row(self.memory.as_slice(), self.out.as_mut_slice()),
         };
         self.write_out(n as usize)?;
         self.lines.push_str("\n")?;
