@@ -16,7 +16,8 @@ use crate::settling::forget;
 use row::{CARDS, Column, IDS, Link};
 
 // Writes the cards from that of the slot `first` on, each slot followed by the one that the column `by` has for it, up to that of `last`, to the front of
-// `out`, no more than it has room for; says how many.
+// `out`, no more than it has room for; says how many. Tried elsewhere with `out.iter_mut()`: a proof knows nothing of what is written through it (so does
+// `name_all` of `row`).
 pub fn show_trail(memory: &[u64], by: Column, first: u64, last: u64, out: &mut [u64]) -> usize
     ensures is { result ≡ length (trail (cell memory.now by) (length out.old) last first) }
     ensures out { out.new ≡ over memory.now (trail (cell memory.now by) (length out.old) last first) result out.old }
