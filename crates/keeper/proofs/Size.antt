@@ -69,12 +69,6 @@ size_written m m₁ c i v l b = (length_written m₁ c i v ∙ b.0, λ h. small_
 pub cond_holds : {Y : Type 0} (B : Y → Type 0) (t : Bool) (a b : Y) → B a → B b → B (cond t a b)
 cond_holds B t a b p q = cond_both t a b B (λ _. p) (λ _. q)
 
--- what holds of an answer that goes by a look-up
-pub given_holds : {X Y : Type 0} (A : Option X → Type 0) (B : Y → Type 0) (o : Option X) (z : Y) (f : X → Y) → A o → B z → ((x : X) → A (Some x) → B (f x)) →
-    B (given o z f)
-given_holds A B None z f a b k = b
-given_holds A B (Some x) z f a b k = k x a
-
 -- the guard
 pub guarded_small : (f : List ℕ → Event → Step) (m : List ℕ) (ev : Event) → small_event ev ≡ true → guarded f m ev ≡ f m ev
 unfolding guarded
