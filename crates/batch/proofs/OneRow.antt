@@ -1,13 +1,12 @@
 -- A link that doesn't go round makes one row only. However many links there are.
-use Rattle.std.proofs.Common.{◌≡◌, ℕ, ◌≤◌, Bool, true, List, [], ◌++◌, sym, ap, ◌∙◌, ap₂, inl, inr, arith}
-use Rattle.std.proofs.lemmas.Bool.{cases_Bool, cases_eq}
+use Rattle.std.proofs.Common.{◌≡◌, ℕ, true, List, [], ◌++◌, sym, ◌∙◌, ap₂, inl, inr, arith}
+use Rattle.std.proofs.lemmas.Bool.{cases_Bool}
 use Rattle.row.specs.declared.board.Link.{Link}
 use Rattle.row.specs.declared.board.Command.TheVariants.{Link as Links}
-use Rattle.row.specs.Lists.{filter, has, place}
+use Rattle.row.specs.Lists.{filter}
 use Rattle.row.specs.Board.{Board, ◌⟶◌, keeps, fine, leads}
 use Rattle.row.specs.Commands.{with_link, backward, touched, firm, must_be}
-use Rattle.row.proofs.Places.{place_same}
-use Rattle.row.proofs.Filters.{before_by_test, same_is}
+use Rattle.row.proofs.Filters.{same_is}
 use Rattle.row.proofs.Climbs.{fine_parts}
 use Rattle.row.proofs.Leading.{leads_before}
 use Rattle.row.proofs.Allowed.{Open, sides_apart, itself}

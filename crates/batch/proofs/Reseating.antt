@@ -9,7 +9,7 @@ use Rattle.row.specs.Columns.{cell, written}
 use Rattle.row.specs.Layout.{tally, ids, chain, slots, places, count, fresh}
 use Rattle.row.specs.Meaning.{row_of, in_use, used, Standing, Stands}
 use Rattle.row.proofs.Cells.{length_written}
-use Rattle.row.proofs.Tabulated.{made_same, made_has, has_made, distinct_made, drop_made, take_made}
+use Rattle.row.proofs.Tabulated.{made_same, made_has, has_made, drop_made, take_made}
 use Rattle.row.proofs.Parts.{with_part, row_in_parts}
 use Rattle.search.proofs.Frames.{small_written, small_cell}
 use Rattle.search.proofs.Listed.{counting_has, counting_once}

@@ -1,7 +1,7 @@
 -- Lists of different numbers: one all of whose numbers are in another list is no longer; and a list without one of its numbers is shorter by one.
 use Rattle.std.proofs.Common.{◌≡◌, ℕ, suc, ◌<◌, ◌≤◌, Bool, true, false, not, eqb, List, [], ◌∷◌, length, refl, inl, inr, arith}
 use Rattle.std.proofs.lemmas.Bool.Decides.{nat_tests}
-use Rattle.std.proofs.lemmas.Bool.{cases_Bool, cases_eq, both_ways, and_parts, and_from}
+use Rattle.std.proofs.lemmas.Bool.{cases_Bool, cases_eq, both_ways, and_from}
 use Rattle.row.specs.Lists.{every, any, filter, has, distinct}
 use Rattle.row.proofs.Filters.{has_filter}
 use Rattle.row.proofs.Chaining.{has_head, has_tail, has_on, has_at, without_none, not_again, distinct_tail}
