@@ -7,8 +7,8 @@
 --   slot_for m p     the slot of a card that comes to the place p
 --   taken m p        the memory after that slot was taken
 --   came m k         a card came
---   shifted f m p    f cards behind the place p moved one place to the left
 --   seated_in m p s  the place p given to the slot s, in both columns
+--   shifted f m p    f cards behind the place p moved one place to the left
 --   last m           the place of the last card
 --   closed m s       the slot s taken out of the row
 --   gone m k         a card went
