@@ -11,8 +11,8 @@ ghost use Rattle.batch.specs.Circling.{flagged, stays, noted, notes, traced, sta
 
 use crate::layout::{LEAVES, NUMBERS, SPARE};
 use crate::seating::row_len;
-use links::{END, ENTRIES, from_of, to_of};
-use row::{CARDS, SLOTS, TALLY};
+use links::{ENTRIES, from_of, to_of, used};
+use row::{CARDS, SLOTS};
 use search::show_trail;
 
 // Notes of the first n slots in SPARE that they have come.
@@ -51,7 +51,7 @@ fn note(memory: &mut [u64], entry: u64)
 fn note_all(memory: &mut [u64])
     ensures { memory.new ≡ notes memory.old }
 {
-    for entry in 0..TALLY.get(memory, END).min(ENTRIES) {
+    for entry in 0..used(memory).min(ENTRIES) {
         note(memory, entry);
     }
 }
