@@ -8,7 +8,8 @@ use crate::seating::Span;
 use keeper::slots_of;
 use row::{CARDS, Link, place_at};
 
-// The places from the first card that some links name to the last; and whether one of the links goes backward.
+// The places from the first card that some links name to the last; and whether one of the links goes backward. One pass over the links finds both; the span
+// is told only if one of them does.
 #[derive(Clone, Copy)]
 struct Named {
     span: Span,
