@@ -64,16 +64,13 @@ fn is_said(memory: &[u64], before: &[Link], link: Link) -> bool
 }
 
 // Whether one of the links was said already, or stands in the batch twice.
-#[tactic(auto, using(crate::proofs::Checks::repeating))]
 pub(crate) fn repeats(memory: &[u64], batch: &[Link]) -> bool
     ensures { result ≡ repeated memory.now [] batch.now }
 {
-    for (i, link) in batch.iter().enumerate() {
-        if is_said(memory, &batch[..i], *link) {
-            return true;
-        }
-    }
-    false
+    batch
+        .iter()
+        .enumerate()
+        .any(|(i, link)| is_said(memory, &batch[..i], *link))
 }
 
 // What is named, widened to the places of a link's two cards.
