@@ -53,9 +53,7 @@ pub(crate) fn join_all(memory: &mut [u64], batch: &[Link], out: &mut Output) -> 
     ensures within { IfErr result (λ round. round.count ≤ length batch.now) }
 {
     for (count, link) in batch.iter().enumerate() {
-        if let Err(shown) = join(memory, *link, out) {
-            return Err(Round { count, shown });
-        }
+        join(memory, *link, out).map_err(|shown| Round { count, shown })?;
     }
     Ok(())
 }
