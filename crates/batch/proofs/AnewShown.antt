@@ -1,7 +1,7 @@
 -- In a memory that holds cards and links, the row by the rule is shown, or a circle of the links.
 use Rattle.std.proofs.Common.{◌≡◌, ℕ, ◌+◌, ◌<◌, ◌≤◌, true, List, ◌++◌, map, length, drop, sym, refl, ap, ◌∙◌, ap₂, arith, Ok}
 use mathlib.Core.List.{map_congr_left}
-use lib.ListN.{length-map, length-reverse}
+use lib.ListN.{length-map}
 use Rattle.std.proofs.lemmas.List.FromFn.{length-map-range_with_len}
 use Rattle.std.proofs.lemmas.Bool.{and_parts, and_from}
 use Rattle.row.specs.declared.board.Link.{Link}
@@ -17,8 +17,6 @@ use Rattle.row.proofs.Named.{has_slot, cards_named, slots_named}
 use Rattle.row.proofs.RenamesLists.{distinct_map}
 use Rattle.links.specs.Meaning.{edges}
 use Rattle.search.specs.Meaning.{slot_board}
-use Rattle.search.specs.Way.{trail}
-use Rattle.search.proofs.Following.{trail_few}
 use Rattle.batch.specs.declared.making_anew.Anew.TheVariants.{Row, Circle}
 use Rattle.batch.specs.Layout.{numbers}
 use Rattle.batch.specs.Several.{circle}
@@ -27,7 +25,7 @@ use Rattle.batch.specs.RuleLaws.{within_row}
 use Rattle.batch.specs.Renewing.{renewed}
 use Rattle.batch.specs.RenewLaws.{MadeAnew}
 use Rattle.batch.proofs.MadeAnew.{renews}
-use Rattle.batch.specs.Circling.{traced, on_circle, round}
+use Rattle.batch.specs.Circling.{traced, round}
 use Rattle.batch.specs.MakingAnew.{Made, new_row, ended}
 use Rattle.batch.proofs.MakingSteps.{ended_round, ended_row}
 use Rattle.batch.proofs.RuleRounds.{anew_round}
@@ -73,9 +71,6 @@ module _ (m row : List ℕ) (ls : List Link) (H : Holding m row ls) where
   count_is =
       sym (length-map-range_with_len (cell m' slots) 0 (count m')) ∙ ap length law.same_row ∙ sym (length-map (row_of m) (cell m ids))
       ∙ ap (λ (r : Board). length r.row) board_is
-
-  pub few : length row ≤ 8192
-  few = let a = law.stands.stands.few in let b = law.stands.stands.room in omega (arith, count_is)
 
   -- if all come, the row by the rule is shown
   pub row_shown : (out : List ℕ) → length (anew ls row) ≡ length row →
@@ -132,8 +127,7 @@ module _ (m row : List ℕ) (ls : List Link) (H : Holding m row ls) where
         ∙ circle_named (cell m ids) (used m) (slot_board m) naming ws c.1 c.0
 
     pub circle_shown : (way : List ℕ) × ((ended m' n out).answer ≡ Ok (Circle (length way))) × ((ended m' n out).out ≡ way ++ drop (length way) out)
-        × (circle (record { row = row; links = ls }) way ≡ true) × (length way ≤ length out)
-    unfolding round
+        × (circle (record { row = row; links = ls }) way ≡ true)
     circle_shown =
         let z = ended_round m' n out (not_all e) in
         let k = length-map ws (cell x ids) in (
@@ -141,7 +135,4 @@ module _ (m row : List ℕ) (ls : List Link) (H : Holding m row ls) where
           ap (λ (y : Made). y.answer) z ∙ ap (λ (i : ℕ). Ok (Circle i)) (sym k),
           ap (λ (y : Made). y.out) z ∙ ap (λ (i : ℕ). map (cell x ids) ws ++ drop i out) (sym k),
           circle_cards,
-          let last = on_circle x in
-              let ks = trail (cell x numbers) (length out) last (cell x numbers last) in
-              omega (arith, k, length-reverse ks, trail_few (cell x numbers) (length out) last (cell x numbers last)),
         )

@@ -1,7 +1,6 @@
 -- A row is made anew from any cards and links: the row by the rule is shown, or a circle of the links, or it is refused.
-use Rattle.std.proofs.Common.{◌≡◌, ℕ, ◌≤◌, true, List, ◌++◌, length, take, drop, replicate, Some, None, Option, refl, ap, ◌∙◌, subst, inl, inr, arith, Ok, Err}
+use Rattle.std.proofs.Common.{◌≡◌, ℕ, ◌≤◌, true, List, ◌++◌, length, drop, replicate, Some, None, Option, refl, ap, ◌∙◌, inl, inr, arith, Ok, Err}
 use Rattle.std.proofs.lemmas.Bool.{cases_eq}
-use Rattle.std.proofs.lemmas.List.{take-append-drop, length-take-le}
 use Rattle.row.specs.declared.board.Link.{Link}
 use Rattle.row.specs.declared.board.Refusal.{Refusal}
 use Rattle.keeper.specs.declared.event.Reason.TheVariants.{Board}
@@ -10,12 +9,11 @@ use Rattle.batch.specs.Several.{circle}
 use Rattle.batch.specs.Rule.{anew}
 use Rattle.batch.specs.Renewing.{renewed}
 use Rattle.batch.specs.Loading.{Loaded, loaded}
-use Rattle.keeper.proofs.Room.{front_stands}
-use Rattle.batch.specs.MakingAnew.{Made, ended, made, in_front, made_anew}
+use Rattle.batch.specs.MakingAnew.{Made, ended, made, made_anew}
 use Rattle.batch.specs.AnewLaws.{row_refusal, MakesAnew, MakesUnfit}
 use Rattle.batch.proofs.MakingSteps.{made_refused, made_so, anew_unfit, anew_fits}
 use Rattle.batch.proofs.LinksIn.{filled}
-use Rattle.batch.proofs.AnewShown.{few, row_shown, circle_shown}
+use Rattle.batch.proofs.AnewShown.{row_shown, circle_shown}
 
 pub makes_unfit : MakesUnfit
 makes_unfit m row ls out h = anew_unfit m row ls out h
@@ -24,47 +22,27 @@ module _ (m row : List ℕ) (ls : List Link) (out : List ℕ) (long : length m �
   abbrev x : Loaded
   x = loaded (replicate 524288 0) row ls
 
-  abbrev front : List ℕ
-  front = take 8192 out
-
-  front_at : (ks : List ℕ) (n : ℕ) → length ks ≡ n → n ≤ 8192 → (ks ++ drop n front) ++ drop 8192 out ≡ ks ++ drop n out
-  front_at ks n e h =
-      subst (λ (i : ℕ). (ks ++ drop i front) ++ drop 8192 out ≡ ks ++ drop i out) e (front_stands 8192 ks out (omega (arith, e)) room)
-
-  is_made : made_anew m row ls out ≡ in_front out (made x front)
-  is_made =
-      anew_fits m row ls out long room ∙ ap (λ (k : ℕ). in_front out (made (loaded (replicate k 0) row ls) front)) long
+  is_made : made_anew m row ls out ≡ made x out
+  is_made = anew_fits m row ls out long room ∙ ap (λ (k : ℕ). made (loaded (replicate k 0) row ls) out) long
 
   is_refused : (why : Refusal) → row_refusal row ls ≡ Some why → made_anew m row ls out ≡ record { answer = Err (Board why); memory = x.memory; out = out }
-  is_refused why e =
-      is_made ∙ ap (in_front out) (made_refused x front why ((filled row ls).0 ∙ e))
-      ∙ ap (λ (ks : List ℕ). record { answer = Err (Board why); memory = x.memory; out = ks }) (take-append-drop 8192 out)
+  is_refused why e = is_made ∙ made_refused x out why ((filled row ls).0 ∙ e)
 
-  is_ended : row_refusal row ls ≡ None → made_anew m row ls out ≡ in_front out (ended (renewed x.memory).memory (renewed x.memory).came front)
-  is_ended e = is_made ∙ ap (in_front out) (made_so x front ((filled row ls).0 ∙ e))
+  is_ended : row_refusal row ls ≡ None → made_anew m row ls out ≡ ended (renewed x.memory).memory (renewed x.memory).came out
+  is_ended e = is_made ∙ made_so x out ((filled row ls).0 ∙ e)
 
   done : row_refusal row ls ≡ None → length (anew ls row) ≡ length row →
       ((made_anew m row ls out).answer ≡ Ok (Row (length row))) × ((made_anew m row ls out).out ≡ anew ls row ++ drop (length row) out)
   done e a =
-      let H = (filled row ls).1 e in
-      let w = row_shown x.memory row ls H front a in (
-        ap (λ (y : Made). y.answer) (is_ended e) ∙ w.0,
-        ap (λ (y : Made). y.out) (is_ended e) ∙ ap (λ (ks : List ℕ). ks ++ drop 8192 out) w.1
-            ∙ front_at (anew ls row) (length row) a (few x.memory row ls H),
-      )
+      let w = row_shown x.memory row ls ((filled row ls).1 e) out a in
+      (ap (λ (y : Made). y.answer) (is_ended e) ∙ w.0, ap (λ (y : Made). y.out) (is_ended e) ∙ w.1)
 
   goes_round : row_refusal row ls ≡ None → (length (anew ls row) ≡ length row → ⊥) →
       (way : List ℕ) × ((made_anew m row ls out).answer ≡ Ok (Circle (length way))) × ((made_anew m row ls out).out ≡ way ++ drop (length way) out)
       × (circle (record { row = row; links = ls }) way ≡ true)
   goes_round e a =
-      let k = length-take-le 8192 out room in
-      let w = circle_shown x.memory row ls ((filled row ls).1 e) front (omega (arith, k)) a in (
-        w.0,
-        ap (λ (y : Made). y.answer) (is_ended e) ∙ w.1,
-        ap (λ (y : Made). y.out) (is_ended e) ∙ ap (λ (ks : List ℕ). ks ++ drop 8192 out) w.2
-            ∙ front_at w.0 (length w.0) refl (omega (arith, k, w.4)),
-        w.3,
-      )
+      let w = circle_shown x.memory row ls ((filled row ls).1 e) out room a in
+      (w.0, ap (λ (y : Made). y.answer) (is_ended e) ∙ w.1, ap (λ (y : Made). y.out) (is_ended e) ∙ w.2, w.3)
 
   -- it is refused only so
   only_refused : (o : Option Refusal) → row_refusal row ls ≡ o → (why : Refusal) → (made_anew m row ls out).answer ≡ Err (Board why) → o ≡ Some why

@@ -7,10 +7,8 @@
 --   shown_circle m ks out   the cards of the slots ks shown, as a circle
 --   ended m n out           one or the other, after n slots have come
 --   made x out              the row of a memory that was filled made anew; or refused, if it couldn't be filled
---   in_front out x          what is made so in the first 8,192 of an output, in the whole of it
---   made_anew m ks ls out   so for the cards ks and the links ls, in the first 8,192 of the output; where the memory or the output doesn't fit, refused,
---                           and nothing is changed
-use Rattle.std.specs.Prelude.{◌≡◌, ℕ, cond, List, ◌++◌, map, length, take, drop, replicate, Ok, Err, Result, nat_lt}
+--   made_anew m ks ls out   so for the cards ks and the links ls; where the memory or the output doesn't fit, refused, and nothing is changed
+use Rattle.std.specs.Prelude.{◌≡◌, ℕ, cond, List, map, length, replicate, Ok, Err, Result, nat_lt}
 use Rattle.std.specs.List.{range_with_len}
 use Rattle.row.specs.declared.board.Link.{Link}
 use Rattle.row.specs.Columns.{cell}
@@ -54,10 +52,6 @@ made x out =
     given x.refused (ended (renewed x.memory).memory (renewed x.memory).came out)
     (λ e. record { answer = Err (Board e); memory = x.memory; out = out })
 
-abbrev pub in_front : List ℕ → Made → Made
-in_front out x = record { answer = x.answer; memory = x.memory; out = x.out ++ drop 8192 out }
-
 unfoldable pub made_anew : List ℕ → List ℕ → List Link → List ℕ → Made
 made_anew m ks ls out =
-    cond (step_fits m out) (in_front out (made (loaded (replicate (length m) 0) ks ls) (take 8192 out)))
-    (record { answer = Err Unfit; memory = m; out = out })
+    cond (step_fits m out) (made (loaded (replicate (length m) 0) ks ls) out) (record { answer = Err Unfit; memory = m; out = out })

@@ -1,16 +1,15 @@
 // A row made anew by the rule, from any cards and links; or a circle of links, if they go round.
-ghost use Rattle.std.specs.Prelude.{◌≡◌, ◌≤◌, length, replicate, Ok};
+ghost use Rattle.std.specs.Prelude.{◌≡◌, ◌≤◌, length, Ok};
 ghost use Rattle.search.specs.Way.{over};
 ghost use Rattle.batch.specs.AnewLaws.{MakesAnew};
 ghost use Rattle.batch.specs.Renewing.{renewed};
-ghost use Rattle.batch.specs.Loading.{loaded};
-ghost use Rattle.batch.specs.MakingAnew.{MadeSo, new_row, ended, made, made_anew};
+ghost use Rattle.batch.specs.MakingAnew.{MadeSo, new_row, ended, made_anew};
 
 use crate::circling::show_circle;
 use crate::layout::SPARE;
 use crate::loading::load;
 use crate::renewing::renew;
-use keeper::{Memory, Output, Reason};
+use keeper::{MEMORY, OUTPUT, Reason};
 use row::{IDS, Link};
 
 // How a row is made anew: so many cards at the front of the output, which is lent, are the new row; or they are a circle, each linked to the next and
@@ -22,8 +21,8 @@ pub enum Anew {
 }
 
 // Writes the cards of the first n slots in SPARE to the front of `out`. Tried as `(0..n).zip(out)`: a proof then knows nothing of what was written.
-fn show_row(memory: &Memory, n: u64, out: &mut Output)
-    requires { n ≤ 8192 }
+fn show_row(memory: &[u64], n: u64, out: &mut [u64])
+    requires { n ≤ length out.old }
     ensures { out.new ≡ over memory.now (new_row memory.now n) n out.old }
 {
     for i in 0..n {
@@ -34,7 +33,8 @@ fn show_row(memory: &Memory, n: u64, out: &mut Output)
 
 // Makes the row of a memory anew, and shows it, or a circle.
 #[tactic(auto, unfolding(crate::specs::MakingAnew::ended))]
-fn finish(memory: &mut Memory, out: &mut Output) -> Anew
+fn finish(memory: &mut [u64], out: &mut [u64]) -> Anew
+    requires { 8192 ≤ length out.old }
     ensures { MadeSo (ended (renewed memory.old).memory (renewed memory.old).came out.old) (Ok result) memory.new out.new }
 {
     let n = renew(memory);
@@ -45,18 +45,9 @@ fn finish(memory: &mut Memory, out: &mut Output) -> Anew
     Anew::Row(n)
 }
 
-// Makes the row anew in a memory and an output that fit, whatever stood in the memory.
-#[tactic(auto, unfolding(crate::specs::MakingAnew::made))]
-fn make(memory: &mut Memory, row: &[u64], links: &[Link], out: &mut Output) -> Result<Anew, Reason>
-    ensures { MadeSo (made (loaded (replicate (length memory.old) 0) row.now links.now) out.old) result memory.new out.new }
-{
-    load(memory, row, links)?;
-    Ok(finish(memory, out))
-}
-
 // Makes the row anew by the rule, with these links: the row by the rule is written to the front of `out`, or a circle, if the links go round. Whatever
 // stood in the memory is gone then.
-#[tactic(auto, using(crate::proofs::MakesAnew::makes_anew, crate::proofs::MakingSteps::fitting))]
+#[tactic(auto, using(crate::proofs::MakesAnew::makes_anew), unfolding(crate::specs::MakingAnew::made_anew, crate::specs::MakingAnew::made))]
 pub fn make_anew(
     memory: &mut [u64],
     row: &[u64],
@@ -66,11 +57,9 @@ pub fn make_anew(
     ensures made { MadeSo (made_anew memory.old row.now links.now out.old) result memory.new out.new }
     ensures right { MakesAnew }
 {
-    let Some(memory) = memory.as_mut_array() else {
+    if memory.len() != MEMORY || out.len() < OUTPUT {
         return Err(Reason::Unfit);
-    };
-    let Some(out) = out.first_chunk_mut() else {
-        return Err(Reason::Unfit);
-    };
-    make(memory, row, links, out)
+    }
+    load(memory, row, links)?;
+    Ok(finish(memory, out))
 }
