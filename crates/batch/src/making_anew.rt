@@ -31,7 +31,7 @@ fn show_row(memory: &[u64], n: u64, out: &mut [u64])
     }
 }
 
-// Makes the row of a memory anew, and shows it, or a circle.
+// Makes the row of a memory anew, and shows it, or a circle. The output's length is asked for, and no type: a circle may be as long as the whole output.
 #[tactic(auto, unfolding(crate::specs::MakingAnew::ended))]
 fn finish(memory: &mut [u64], out: &mut [u64]) -> Anew
     requires { 8192 ≤ length out.old }
