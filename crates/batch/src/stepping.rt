@@ -10,7 +10,7 @@ use keeper::{Act, Memory, Output, Pending, Reason};
 use row::Link;
 
 // The answer to an event.
-#[tactic(auto, using(crate::proofs::SayingSteps::given_by), unfolding(crate::specs::Own::answer, keeper::specs::Answers::still_to_come))]
+#[tactic(auto, using(crate::proofs::SayingSteps::given_by), unfolding(crate::specs::Own::answer, crate::specs::Own::when_idle, keeper::specs::Answers::still_to_come))]
 fn hear(memory: &mut Memory, event: Event, batch: &[Link], out: &mut Output) -> Result<Act, Reason>
     ensures { Gives (answer memory.old (heard event batch.now)) out.old result memory.new out.new }
 {
