@@ -20,7 +20,8 @@ pub enum Anew {
     Circle(u64),
 }
 
-// Writes the cards of the first n slots in SPARE to the front of `out`. Tried as `(0..n).zip(out)`: a proof then knows nothing of what was written.
+// Writes the cards of the first n slots in SPARE to the front of `out`. (`row::tell` tells from the row's own column, and refuses where the memory is short.)
+// Tried as `(0..n).zip(out)`: a proof then knows nothing of what was written.
 fn show_row(memory: &[u64], n: u64, out: &mut [u64])
     requires { n ≤ length out.old }
     ensures { out.new ≡ over memory.now (new_row memory.now n) n out.old }
