@@ -37,7 +37,7 @@ said, then the cards, numbers of two bytes each, the low byte first.
   3 a b   a needn't stand before b any more
   4 a b   how many cards stand before a, and how many before b?
   5 n ..  n links at once, all or none: a byte with their number, 0 for 256,
-          then two cards for each, of which one has to stand before the other
+          then two cards a b for each of them: a has to stand before b
   6       the row is made anew: again and again the smallest number comes next
           of the cards before which none that is left has to stand
 
