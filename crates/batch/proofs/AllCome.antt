@@ -24,7 +24,8 @@ use Rattle.batch.specs.Rule.{waits, first_free, without, by_rule}
 use Rattle.batch.proofs.Many.{many_any}
 use Rattle.batch.proofs.Beside.{Beside}
 use Rattle.batch.proofs.Freeing.{Tidy, Else}
-use Rattle.batch.proofs.Lefts.{length_without, first_by_place}
+use Rattle.batch.proofs.Lefts.{first_by_place}
+use Rattle.batch.proofs.Within.{length_without}
 use Rattle.batch.proofs.Coming.{into, Drawing, is_free}
 use Rattle.batch.proofs.Drawing.{draws}
 

@@ -1,13 +1,10 @@
 -- The cards that links name are found just if they are there; and what their slots tell.
-use Rattle.std.proofs.Common.{◌≡◌, ℕ, true, ◌&&◌, List, [], ◌∷◌, is_some, Some, None, Option, sym, refl, ap, ◌∙◌, subst, inl, inr}
-use Rattle.std.proofs.lemmas.Bool.{cases_Bool}
+use Rattle.std.proofs.Common.{◌≡◌, ℕ, true, ◌&&◌, List, [], ◌∷◌, is_some, Some, sym, refl, ap, ◌∙◌, subst, ap₂}
 use Rattle.row.specs.declared.board.Link.{Link}
 use Rattle.row.specs.Lists.{every, has, place}
 use Rattle.row.specs.Board.{Board, ◌⟶◌, linked}
 use Rattle.row.specs.Columns.{cell}
 use Rattle.row.specs.Layout.{places}
-use Rattle.row.specs.Lookup.{given, found}
-use Rattle.row.specs.Meaning.{cards}
 use Rattle.row.proofs.Closes.{used_below}
 use Rattle.row.proofs.Named.{place_slot}
 use Rattle.links.proofs.Operating.{finds as finds_entry}
@@ -15,30 +12,19 @@ use Rattle.search.specs.Meaning.{Ready}
 use Rattle.keeper.specs.Meaning.{card_board}
 use Rattle.keeper.specs.Linking.{slots_found}
 use Rattle.keeper.proofs.Knowing.{names}
-use Rattle.keeper.proofs.TwoCards.{Seated, has_row, seated, absent, slots_there, linked_is}
+use Rattle.keeper.proofs.TwoCards.{Seated, has_row, seated, slots_there as slots_of, linked_is}
+use Rattle.batch.proofs.LookUps.{slots_there}
 use Rattle.batch.specs.declared.checking.Named.{Named}
 use Rattle.batch.specs.Several.{all_there}
 use Rattle.batch.specs.Checking.{all_found, known, widened, wider}
 use Rattle.batch.specs.CheckLaws.{FindsAll}
 
-both_some : (o p : Option ℕ) → is_some (given o None (λ a. given p None (λ b. Some (a ⟶ b)))) ≡ (is_some o && is_some p)
-both_some (Some a) (Some b) = refl
-both_some (Some a) None = refl
-both_some None p = refl
-
 module _ (m : List ℕ) (R : Ready m) where
   abbrev r : Board
   r = card_board m
 
-  card_found : (k : ℕ) → is_some (found m k) ≡ has r.row k
-  card_found k = elim (cases_Bool (has (cards m) k)) [
-    | inl h ↦ ap is_some (seated m R k h).1.is_found ∙ sym (has_row m R k ∙ h)
-    | inr h ↦ ap is_some (absent m R k h) ∙ sym (has_row m R k ∙ h)
-  ]
-
   both_found : (l : Link) → is_some (slots_found m l) ≡ (has r.row l.from && has r.row l.to)
-  unfolding slots_found
-  both_found l = both_some (found m l.from) (found m l.to) ∙ rw (card_found l.from, card_found l.to)
+  both_found l = slots_there m R.stands l ∙ ap₂ ◌&&◌ (sym (has_row m R l.from)) (sym (has_row m R l.to))
 
   all_so : (ls : List Link) → all_found m ls ≡ all_there r ls
   unfolding every
@@ -57,7 +43,7 @@ module _ (m : List ℕ) (R : Ready m) where
     B = seated m R l.to (sym (has_row m R l.to) ∙ hb)
 
     slots_are : slots_found m l ≡ Some (A.0 ⟶ B.0)
-    slots_are = slots_there m R l A.0 B.0 A.1 B.1
+    slots_are = slots_of m R l A.0 B.0 A.1 B.1
 
     pub known_so : known m l ≡ linked r l.from l.to
     unfolding known

@@ -1,31 +1,24 @@
--- The loops over a batch that look at each link, step by step.
-use Rattle.std.proofs.Common.{◌≡◌, ℕ, ◌+◌, ◌<◌, ◌≤◌, Bool, true, false, ◌||◌, List, [], ◌∷◌, ◌++◌, length, get_or, take, drop, sym, refl, ap, ◌∙◌}
-use Rattle.std.proofs.lemmas.List.{at_drop_more, at_drop_all, take_more}
-use Rattle.std.specs.List.{list_any}
+-- Whether one of the links of a batch was said before: each is looked for among those before it.
+use Rattle.std.proofs.Common.{◌≡◌, ℕ, ◌+◌, Bool, ◌||◌, List, [], ◌∷◌, ◌++◌, length, take, sym, refl, ap, ◌∙◌, ap₂, append_assoc, length-append}
+use Rattle.std.proofs.lemmas.List.{take_at}
+use Rattle.std.specs.List.{list_any, enumerate_from}
 use Rattle.row.specs.declared.board.Link.{Link}
 use Rattle.links.specs.Entries.{joins}
 use Rattle.batch.specs.Checking.{known, repeated}
 
-module _ (m : List ℕ) (ls : List Link) (i : ℕ) (h : i < length ls) where
-  abbrev d : Link
-  d = record { from = 0; to = 0 }
+-- the link at i was said before, or stands among the first i
+abbrev pub seen : List ℕ → List Link → ℕ × Link → Bool
+seen m ls p = known m p.1 || list_any (joins p.1) (take p.0 ls)
 
-  abbrev seen : Bool
-  seen = known m (get_or ls i d) || list_any (joins (get_or ls i d)) (take i ls)
+seen_or_repeated : (m : List ℕ) (ls ps : List Link) → list_any (seen m (ps ++ ls)) (enumerate_from (length ps) ls) ≡ repeated m ps ls
+unfolding repeated
+seen_or_repeated m [] ps = refl
+seen_or_repeated m (l ∷ ls) ps =
+    let qs = ps ++ l ∷ [] in
+    let e : qs ++ ls ≡ ps ++ l ∷ ls = append_assoc ps (l ∷ []) ls in
+    let n : length qs ≡ length ps + 1 = length-append ps (l ∷ []) in
+    ap₂ (λ (xs : List Link) (b : Bool). (known m l || list_any (joins l) xs) || b) (take_at ps (l ∷ ls) (length ps) refl)
+    (ap₂ (λ (xs : List Link) (i : ℕ). list_any (seen m xs) (enumerate_from i ls)) (sym e) (sym n) ∙ seen_or_repeated m ls qs)
 
-  step : repeated m (take i ls) (drop i ls) ≡ (seen || repeated m (take i ls ++ get_or ls i d ∷ []) (drop (i + 1) ls))
-  unfolding repeated
-  step = at_drop_more (repeated m (take i ls)) ls i d h
-
-  pub repeated_on : seen ≡ false → repeated m (take i ls) (drop i ls) ≡ repeated m (take (i + 1) ls) (drop (i + 1) ls)
-  repeated_on e = step ∙ rw e (ap (λ (ps : List Link). repeated m ps (drop (i + 1) ls)) (sym (take_more ls i d h)))
-
-  pub repeated_stop : seen ≡ true → repeated m (take i ls) (drop i ls) ≡ true
-  repeated_stop e = step ∙ rw e refl
-
-module _ (m : List ℕ) (ls : List Link) (i : ℕ) (h : length ls ≤ i) where
-  pub repeated_end : (ps : List Link) → repeated m ps (drop i ls) ≡ false
-  unfolding repeated
-  repeated_end ps = at_drop_all (repeated m ps) ls i h
-
-pub ruleset repeating = (repeated_on, repeated_stop, repeated_end)
+pub repeats : (m : List ℕ) (ls : List Link) → list_any (seen m ls) (enumerate_from 0 ls) ≡ repeated m [] ls
+repeats m ls = seen_or_repeated m ls []

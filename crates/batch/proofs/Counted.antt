@@ -8,6 +8,7 @@ use Rattle.row.specs.declared.board.Refusal.TheVariants.{Cycle}
 use Rattle.row.specs.Columns.{cell}
 use Rattle.row.specs.Layout.{tally, places}
 use Rattle.row.specs.Moves.{came, gone, place_found}
+use Rattle.row.proofs.Walking.{given_holds}
 use Rattle.links.specs.Entries.{found as entry_found}
 use Rattle.links.specs.Layout.{live}
 use Rattle.links.specs.Removing.{removed}
@@ -23,7 +24,6 @@ use Rattle.keeper.specs.Telling.{told_part}
 use Rattle.keeper.specs.Reordering.{shown_round, moved, reordered}
 use Rattle.keeper.specs.Linking.{slots_found, unlinked, put_in, linked}
 use Rattle.keeper.specs.Own.{said as command_said, finished, went_on, answer as keeper_answer}
-use Rattle.keeper.proofs.Size.{given_holds}
 use Rattle.keeper.proofs.OwnSize.{by_result_holds, Any}
 use Rattle.batch.specs.declared.seating.Span.{Span}
 use Rattle.batch.specs.Checking.{all_found, repeated}

@@ -5,9 +5,9 @@ use Rattle.std.proofs.lemmas.Bool.{cases_Bool, cases_eq, both_ways, and_parts, a
 use Rattle.row.specs.Lists.{every, any, has, distinct}
 use Rattle.row.specs.Board.{Board, linked}
 use Rattle.row.specs.Commands.{follows, last_of}
-use Rattle.row.proofs.Chaining.{has_head, has_on}
+use Rattle.row.proofs.Chaining.{has_head, has_on, not_again, distinct_tail}
 use Rattle.batch.specs.Several.{circle}
-use Rattle.batch.proofs.Within.{not_again, distinct_tail, distinct_cons, Within, within_more, within_both, within_not, few_within}
+use Rattle.batch.proofs.Within.{distinct_cons, Within, within_more, within_both, within_not, few_within}
 
 module _ (r : Board) where
   -- the cards behind k of a way up to a

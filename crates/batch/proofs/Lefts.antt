@@ -1,13 +1,13 @@
 -- What is left of a row when one card after another comes, and which of it is the first that waits for none.
-use Rattle.std.proofs.Common.{◌≡◌, ℕ, zero, suc, ◌+◌, ◌<◌, ◌≤◌, Bool, true, false, not, ◌&&◌, eqb, List, [], ◌∷◌, map, length, Some, None, sym, refl, ap, ◌∙◌, inl, inr, arith}
+use Rattle.std.proofs.Common.{◌≡◌, ℕ, zero, suc, ◌+◌, ◌<◌, ◌≤◌, Bool, true, false, not, ◌&&◌, eqb, List, [], ◌∷◌, map, Some, None, sym, refl, ap, ◌∙◌, inl, inr, arith}
 use Rattle.std.specs.List.{range_with_len}
-use Rattle.std.proofs.lemmas.Bool.{cases_Bool, cases_eq, both_ways, eq-eqb, ne_eqb, eqb-true, and_parts, and_from, not-true, or_cases, or_left, or_right}
+use Rattle.std.proofs.lemmas.Bool.{cases_Bool, both_ways, eqb-true, and_parts, and_from, or_cases, or_left, or_right}
 use Rattle.row.specs.declared.board.Link.{Link}
-use Rattle.row.specs.Lists.{any, filter, has, distinct}
+use Rattle.row.specs.Lists.{any, filter, has}
 use Rattle.row.specs.Lookup.{given}
 use Rattle.row.proofs.Filters.{has_filter}
 use Rattle.row.proofs.Ways.{joins}
-use Rattle.row.proofs.Chaining.{without_none, has_on, has_tail, has_head}
+use Rattle.row.proofs.Chaining.{has_tail, has_head}
 use Rattle.search.proofs.Listed.{head_of}
 use Rattle.batch.specs.Rule.{waits, first_free, without}
 
@@ -46,16 +46,6 @@ part_without row left k e =
 pub part_has : (row left : List ℕ) (k : ℕ) → Part row left → has left k ≡ true → has row k ≡ true
 part_has row left k e h =
     (and_parts (has left k) (has row k) (sym (has_filter (has left) row k) ∙ ap (λ (xs : List ℕ). has xs k) (sym e) ∙ h)).1
-
-pub length_without : (xs : List ℕ) (k : ℕ) → distinct xs ≡ true → has xs k ≡ true → length xs ≡ suc (length (without xs k))
-unfolding distinct filter any
-length_without [] k d h = absurd (both_ways false refl h)
-length_without (x ∷ xs) k d h =
-    let p = and_parts (not (has xs x)) (distinct xs) d in
-    elim (cases_eq x k) [
-      | inl e ↦ let none = without_none k xs (ap (has xs) (sym e) ∙ not-true (has xs x) p.0) in rw (eq-eqb x k e, none)
-      | inr e ↦ let ih = length_without xs k p.1 (has_on x k xs e h) in rw (ne_eqb x k e) (omega arith)
-    ]
 
 -- a card waits for what is linked to it and is left
 pub linked_waits : (ls : List Link) (left : List ℕ) (a b : ℕ) → joins ls a b ≡ true → has left a ≡ true → waits ls left b ≡ true

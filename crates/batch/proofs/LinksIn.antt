@@ -1,5 +1,5 @@
 -- Links are put into a memory that holds their cards.
-use Rattle.std.proofs.Common.{◌≡◌, ℕ, ◌+◌, ◌<◌, ◌≤◌, true, ◌&&◌, List, [], ◌∷◌, ◌++◌, map, length, replicate, is_some, Some, None, Option, sym, refl, ap, ◌∙◌, subst, ap₂, inl, inr, append_assoc, arith, length-append}
+use Rattle.std.proofs.Common.{◌≡◌, ℕ, ◌+◌, ◌<◌, ◌≤◌, true, ◌&&◌, List, [], ◌∷◌, ◌++◌, map, length, replicate, Some, None, Option, sym, refl, ap, ◌∙◌, subst, ap₂, inl, inr, append_assoc, arith, length-append}
 use lib.ListN.{length-map}
 use Rattle.std.proofs.lemmas.List.{append-nil, map-append}
 use Rattle.std.proofs.lemmas.Bool.{cases_Bool, cases_lt, lt-leb, le-leb, and_parts}
@@ -9,7 +9,6 @@ use Rattle.row.specs.Lists.{every, has}
 use Rattle.row.specs.Board.{◌⟶◌}
 use Rattle.row.specs.Columns.{cell}
 use Rattle.row.specs.Layout.{ids}
-use Rattle.row.specs.Lookup.{given, found}
 use Rattle.row.specs.Meaning.{used, cards, Stands}
 use Rattle.row.specs.Renaming.{named}
 use Rattle.row.specs.Laws.{SameRow}
@@ -31,6 +30,7 @@ use Rattle.keeper.proofs.Carrying.{links_same}
 use Rattle.batch.specs.Checking.{all_found}
 use Rattle.batch.specs.Loading.{Loaded, cards_come, put_one, put_all, links_come, loaded}
 use Rattle.batch.specs.AnewLaws.{cards_refusal, links_refusal, row_refusal}
+use Rattle.batch.proofs.LookUps.{slots_there}
 use Rattle.batch.proofs.CardsIn.{Fresh, marks_same, Come, cards_in}
 
 -- the memory holds the cards and the links
@@ -118,22 +118,7 @@ put_in_all (l ∷ ls) done m row H e h =
     subst (Holding (put_all (put_one m l) ls) row) (append_assoc done (l ∷ []) ls)
     (put_in_all ls (done ++ l ∷ []) (put_one m l) row w p.1 (omega (arith, length-append done (l ∷ []))))
 
--- whether the cards of a link are found
-found_there : (m : List ℕ) → Stands m → (k : ℕ) → is_some (found m k) ≡ has (cards m) k
-found_there m S k = elim (cases_Bool (has (cards m) k)) [
-  | inl h ↦ ap is_some ((finds m k S).2 h).1 ∙ sym h
-  | inr h ↦ ap is_some ((finds m k S).1 h) ∙ sym h
-]
-
-both_some : (o p : Option ℕ) → is_some (given o None (λ a. given p None (λ b. Some (a ⟶ b)))) ≡ (is_some o && is_some p)
-both_some None p = refl
-both_some (Some a) None = refl
-both_some (Some a) (Some b) = refl
-
-slots_there : (m : List ℕ) → Stands m → (l : Link) → is_some (slots_found m l) ≡ (has (cards m) l.from && has (cards m) l.to)
-unfolding slots_found
-slots_there m S l = both_some (found m l.from) (found m l.to) ∙ ap₂ ◌&&◌ (found_there m S l.from) (found_there m S l.to)
-
+-- whether the cards of the links are found
 all_found_is : (m row : List ℕ) → Fresh m row → (ls : List Link) → all_found m ls ≡ every (λ l. has row l.from && has row l.to) ls
 unfolding every
 all_found_is m row F [] = refl

@@ -1,5 +1,12 @@
--- Where a card is found depends on the columns of the look-up alone.
-use Rattle.std.proofs.Common.{◌≡◌, ℕ, zero, suc, ◌+◌, List, Some, None, Option, refl}
+-- Where a card is found depends on the columns of the look-up alone; and it is found just if it is there.
+use Rattle.std.proofs.Common.{◌≡◌, ℕ, zero, suc, ◌+◌, ◌&&◌, List, is_some, Some, None, Option, sym, refl, ap, ◌∙◌, ap₂, inl, inr}
+use Rattle.std.proofs.lemmas.Bool.{cases_Bool}
+use Rattle.row.specs.declared.board.Link.{Link}
+use Rattle.row.specs.Lists.{has}
+use Rattle.row.specs.Board.{◌⟶◌}
+use Rattle.row.specs.Meaning.{cards, Stands}
+use Rattle.row.proofs.Present.{finds}
+use Rattle.keeper.specs.Linking.{slots_found}
 use Rattle.row.specs.Columns.{cell}
 use Rattle.row.specs.Layout.{ids, chain}
 use Rattle.row.specs.Lookup.{bucket, given, followed, sought, found}
@@ -22,3 +29,19 @@ module _ (m m' : List ℕ) (i : (j : ℕ) → cell m' ids j ≡ cell m ids j) (x
   pub found_alike : (k : ℕ) → found m' k ≡ found m k
   unfolding found
   found_alike k = rw (sought_alike 8192 (bucket k) k)
+
+-- whether the cards of a link are found
+found_there : (m : List ℕ) → Stands m → (k : ℕ) → is_some (found m k) ≡ has (cards m) k
+found_there m S k = elim (cases_Bool (has (cards m) k)) [
+  | inl h ↦ ap is_some ((finds m k S).2 h).1 ∙ sym h
+  | inr h ↦ ap is_some ((finds m k S).1 h) ∙ sym h
+]
+
+both_some : (o p : Option ℕ) → is_some (given o None (λ a. given p None (λ b. Some (a ⟶ b)))) ≡ (is_some o && is_some p)
+both_some None p = refl
+both_some (Some a) None = refl
+both_some (Some a) (Some b) = refl
+
+pub slots_there : (m : List ℕ) → Stands m → (l : Link) → is_some (slots_found m l) ≡ (has (cards m) l.from && has (cards m) l.to)
+unfolding slots_found
+slots_there m S l = both_some (found m l.from) (found m l.to) ∙ ap₂ ◌&&◌ (found_there m S l.from) (found_there m S l.to)

@@ -1,27 +1,18 @@
 -- A link that doesn't go round makes one row only. However many links there are.
-use Rattle.std.proofs.Common.{◌≡◌, ℕ, ◌≤◌, Bool, true, List, [], ◌++◌, sym, ap, ◌∙◌, ap₂, inl, inr, arith}
-use Rattle.std.proofs.lemmas.Bool.{cases_Bool, cases_eq}
+use Rattle.std.proofs.Common.{◌≡◌, ℕ, true, List, [], ◌++◌, sym, ◌∙◌, ap₂, inl, inr, arith}
+use Rattle.std.proofs.lemmas.Bool.{cases_Bool}
 use Rattle.row.specs.declared.board.Link.{Link}
 use Rattle.row.specs.declared.board.Command.TheVariants.{Link as Links}
-use Rattle.row.specs.Lists.{filter, has, place}
+use Rattle.row.specs.Lists.{filter}
 use Rattle.row.specs.Board.{Board, ◌⟶◌, keeps, fine, leads}
 use Rattle.row.specs.Commands.{with_link, backward, touched, firm, must_be}
-use Rattle.row.proofs.Places.{place_same}
-use Rattle.row.proofs.Filters.{before_by_test, same_is}
+use Rattle.row.proofs.Filters.{same_is}
 use Rattle.row.proofs.Climbs.{fine_parts}
 use Rattle.row.proofs.Leading.{leads_before}
 use Rattle.row.proofs.Allowed.{Open, sides_apart, itself}
 use Rattle.row.proofs.Little.{Little, little_apart, little_has}
-use Rattle.row.proofs.Only.{same_row, both_tests, firm_parts}
+use Rattle.row.proofs.Only.{same_row, both_tests, firm_parts, upto_by_test}
 use Rattle.batch.proofs.OneLink.{kept_link}
-
--- two that pass a test whose cards stay in their order: the first is no later, if it was no later
-upto_by_test : (f : ℕ → Bool) (xs ys : List ℕ) (x y : ℕ) → filter f ys ≡ filter f xs → f x ≡ true → f y ≡ true → has xs x ≡ true →
-    place xs x ≤ place xs y → place ys x ≤ place ys y
-upto_by_test f xs ys x y e p q h l = elim (cases_eq (place xs x) (place xs y)) [
-  | inl s ↦ omega (arith, ap (place ys) (place_same xs x y h s))
-  | inr s ↦ omega (arith, before_by_test f xs ys x y e p q (omega arith))
-]
 
 module _ (r : Board) (fi : fine r ≡ true) (a b : ℕ) (o : Open r a b) where
   -- since a stands before b now, the order of what is touched is settled

@@ -25,6 +25,9 @@ module _ (m new : List ℕ) (low high i d : ℕ) (l : low ≤ high) (h : high �
   outside_put (inl o) = grind (arith, places)
   outside_put (inr o) = grind (arith, places)
 
+  inside_put : low ≤ i → i < high → get_or (take low m ++ (new ++ drop high m)) i d ≡ get_or new (i - low) d
+  inside_put p q = grind (arith, places)
+
 module _ (m : List ℕ) (low high : ℕ) where
   -- there is such a part, or there is none
   pub part_there : low ≤ high → high ≤ length m → sorted_part m low high ≡ take low m ++ (sorted (between low high m) ++ drop high m)
@@ -65,6 +68,12 @@ module _ (m : List ℕ) (low high : ℕ) where
     | inl (l, h) ↦ rw (part_there l h) (outside_put m (sorted (between low high m)) low high i d l h (length_there l h) o)
     | inr n ↦ ap (λ (zs : List ℕ). get_or zs i d) (no_part n)
   ]
+
+  pub inside_part : (i d : ℕ) → low ≤ i → i < high → high ≤ length m →
+      get_or (sorted_part m low high) i d ≡ get_or (sorted (between low high m)) (i - low) d
+  inside_part i d l k h =
+      let lh : low ≤ high = omega arith in
+      rw (part_there lh h) (inside_put m (sorted (between low high m)) low high i d lh h (length_there lh h) l k)
 
   pub part_is : low ≤ high → high ≤ length m → between low high (sorted_part m low high) ≡ sorted (between low high m)
   part_is l h =

@@ -3,6 +3,7 @@ use Rattle.std.proofs.Common.{◌≡◌, ℕ, zero, suc, ◌+◌, min, true, Lis
 use Rattle.row.specs.declared.column.Column.{Column}
 use Rattle.row.specs.Columns.{cell, written, apart}
 use Rattle.row.specs.Layout.{tally, slots, count}
+use Rattle.row.proofs.Walking.{given_holds}
 use Rattle.links.specs.declared.chain.Chain.TheVariants.{Out}
 use Rattle.links.specs.declared.chain.Meeting.{Meeting}
 use Rattle.links.specs.declared.chain.Meeting.TheVariants.{End, Dead, Living}
@@ -17,7 +18,6 @@ use Rattle.search.specs.Marks.{removed, first_mark}
 use Rattle.search.proofs.Frames.{Small, small_cell, only_removed}
 use Rattle.search.proofs.Touching.{stepped_apart}
 use Rattle.keeper.specs.Promise.{all_small}
-use Rattle.keeper.proofs.Size.{given_holds}
 use Rattle.keeper.proofs.OwnSize.{small_each, each_small, size_each}
 use Rattle.batch.specs.Layout.{spare, awaits, leaves}
 use Rattle.batch.specs.Renewing.{counts, cleared, frees, prepared, next_by, left_by, released, let_go, drawn, renewing, renewed}

@@ -9,10 +9,10 @@ use Rattle.row.specs.Columns.{cell, written}
 use Rattle.row.specs.Layout.{tally, ids, chain, slots, places, count, fresh}
 use Rattle.row.specs.Meaning.{row_of, in_use, used, Standing, Stands}
 use Rattle.row.proofs.Cells.{length_written}
-use Rattle.row.proofs.Tabulated.{made_same, made_has, has_made, distinct_made, drop_made, take_made}
+use Rattle.row.proofs.Tabulated.{made_same, made_has, has_made, drop_made, take_made}
 use Rattle.row.proofs.Parts.{with_part, row_in_parts}
 use Rattle.search.proofs.Frames.{small_written, small_cell}
-use Rattle.search.proofs.Listed.{counting_has}
+use Rattle.search.proofs.Listed.{counting_has, counting_once}
 use Rattle.search.proofs.Exchanged.{with_at, at_here, exchanged, exchanged_out}
 use Rattle.search.proofs.Dealing.{put_one, put, put_one_apart, put_slots, put_places}
 use Rattle.search.proofs.Seating.{Rearranges, Seats, used_same, seated_standing}
@@ -28,9 +28,6 @@ out_counting a n k h = elim (cases_Bool (has (range_with_len a n) k)) [
   | inl e ↦ let c = counting_has a n k e in absurd (elim h [ inl l ↦ omega arith | inr l ↦ omega arith ])
   | inr e ↦ e
 ]
-
-counting_once : (a n : ℕ) → distinct (range_with_len a n) ≡ true
-counting_once a n = ap distinct (sym (map-id (range_with_len a n))) ∙ distinct_made (λ p. p) a n (λ p q l u v e. omega arith)
 
 -- other values at the numbers in a row
 exchanged_row : (g : ℕ → ℕ) (a n : ℕ) (ks : List ℕ) → length ks ≡ n → map (exchanged g (range_with_len a n) ks) (range_with_len a n) ≡ ks

@@ -5,6 +5,7 @@ use Rattle.std.proofs.lemmas.Bool.{cond_both}
 use Rattle.row.specs.declared.board.Link.{Link}
 use Rattle.row.specs.Columns.{cell}
 use Rattle.row.specs.Layout.{ids, places}
+use Rattle.row.proofs.Walking.{given_holds}
 use Rattle.links.specs.Layout.{live}
 use Rattle.search.specs.Layout.{via}
 use Rattle.search.specs.Hunt.{meeting}
@@ -17,7 +18,6 @@ use Rattle.keeper.specs.Own.{went_on, answer as keeper_answer}
 use Rattle.keeper.specs.Reordering.{round_cards}
 use Rattle.keeper.proofs.OwnSize.{Any}
 use Rattle.keeper.proofs.Room.{Few, few_answer}
-use Rattle.keeper.proofs.Size.{given_holds}
 use Rattle.batch.specs.declared.seating.Span.{Span}
 use Rattle.batch.specs.Checking.{all_found, repeated}
 use Rattle.batch.specs.Joining.{Joined, joined_slots, joined, Tried, tried}

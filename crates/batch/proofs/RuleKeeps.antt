@@ -5,11 +5,11 @@ use Rattle.std.proofs.lemmas.Bool.{cases_Bool, cases_eq, both_ways, and_parts, l
 use Rattle.row.specs.declared.board.Link.{Link}
 use Rattle.row.specs.Lists.{any, has, place, distinct}
 use Rattle.row.proofs.Filters.{every_at, every_from}
-use Rattle.row.proofs.Chaining.{has_tail, has_at}
+use Rattle.row.proofs.Chaining.{has_tail, has_at, not_again, distinct_tail}
 use Rattle.row.proofs.Ways.{joins}
 use Rattle.batch.specs.Rule.{waits, without, Ruled}
 use Rattle.batch.specs.RuleLaws.{RuledKeeps, KeptIsRuled}
-use Rattle.batch.proofs.Within.{not_again, distinct_tail, has_without, without_head}
+use Rattle.batch.proofs.Within.{has_without, without_head}
 use Rattle.batch.proofs.RuleSteps.{waits_from, waits_for, next_head}
 use Rattle.batch.proofs.RuleRows.{ruled_next, next_ruled, ruled_anew}
 

@@ -5,10 +5,10 @@ use Rattle.std.proofs.lemmas.Bool.Decides.{nat_tests}
 use Rattle.row.specs.declared.board.Link.{Link}
 use Rattle.row.specs.Lists.{any, has, distinct}
 use Rattle.row.proofs.Filters.{distinct_filter}
-use Rattle.row.proofs.Chaining.{has_head, has_tail, has_at}
+use Rattle.row.proofs.Chaining.{has_head, has_tail, has_at, not_again, distinct_tail}
 use Rattle.row.proofs.Ways.{joins}
 use Rattle.batch.specs.Rule.{first_free, without, by_rule, anew}
-use Rattle.batch.proofs.Within.{not_again, distinct_tail, has_without, without_has, without_shorter, length_without}
+use Rattle.batch.proofs.Within.{has_without, without_has, without_shorter, length_without}
 use Rattle.batch.proofs.RuleSteps.{first_next, none_free, waits_for}
 use Rattle.batch.proofs.RuleRows.{none_or_some, by_rule_next, by_rule_ends}
 

@@ -18,7 +18,7 @@ use Rattle.keeper.specs.Promise.{all_small, small_command}
 use Rattle.keeper.specs.Sized.{KeepsSize}
 use Rattle.keeper.specs.Linking.{slots_found}
 use Rattle.keeper.specs.Reordering.{round_cards}
-use Rattle.keeper.proofs.Size.{small_map, small_cell, size_same, size_then, size_written, given_holds}
+use Rattle.keeper.proofs.Size.{small_map, small_cell, size_same, size_then, size_written}
 use Rattle.keeper.proofs.OwnSize.{BothBelow, size_inserted, size_removed, size_meeting, size_forgotten, size_settled, size_pending, Sized, sized_done, sized_refuses, sized_then, sized_cond, sized_shows, small_one, both_found, Any, sized_on}
 use Rattle.batch.specs.declared.seating.Span.{Span}
 use Rattle.batch.specs.Checking.{all_found, repeated, wider, widened, spanned, moving, no_span, span}
@@ -26,6 +26,7 @@ use Rattle.batch.specs.Joining.{Joined, joined_slots, joined, Tried, tried, drop
 use Rattle.batch.specs.Saying.{noting, told_span, part_aside, undone, brought, by_trial, rearranged, said_several}
 use Rattle.batch.specs.Seating.{reseated}
 use Rattle.row.specs.Lookup.{given}
+use Rattle.row.proofs.Walking.{given_holds}
 use Rattle.keeper.specs.Answers.{quiet, ends}
 use Rattle.keeper.specs.declared.event.Act.TheVariants.{Done}
 use Rattle.batch.specs.declared.checking.Named.{Named}

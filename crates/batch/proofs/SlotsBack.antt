@@ -1,13 +1,12 @@
 -- From the cards back to their slots: the board of slots is the board of cards with the slots for names, and these depend on the look-up alone.
-use Rattle.std.proofs.Common.{◌≡◌, ℕ, zero, suc, ◌+◌, Bool, true, List, [], ◌∷◌, map, None, refl, ap, ◌∙◌, ap₂}
-use mathlib.Core.Path.{fun_ext}
+use Rattle.std.proofs.Common.{◌≡◌, ℕ, Bool, true, List, [], ◌∷◌, map, Option, sym, refl, ap, ◌∙◌, ap₂}
 use Rattle.std.proofs.lemmas.Bool.{and_parts}
 use Rattle.row.specs.declared.board.Link.{Link}
 use Rattle.row.specs.Lists.{every}
 use Rattle.row.specs.Board.{Board}
 use Rattle.row.specs.Columns.{cell}
 use Rattle.row.specs.Layout.{ids, chain}
-use Rattle.row.specs.Lookup.{bucket, given, followed, sought, found}
+use Rattle.row.specs.Lookup.{given, found}
 use Rattle.row.specs.Meaning.{used, row_of}
 use Rattle.row.specs.Renaming.{named, renamed}
 use Rattle.row.proofs.Present.{found_there}
@@ -15,6 +14,7 @@ use Rattle.row.proofs.Named.{row_used}
 use Rattle.row.proofs.RenamesLinks.{Known}
 use Rattle.links.specs.Meaning.{edges}
 use Rattle.search.specs.Meaning.{slot_board}
+use Rattle.batch.proofs.LookUps.{found_alike}
 use Rattle.keeper.specs.Meaning.{Means}
 use Rattle.keeper.proofs.Knowing.{ends_used}
 
@@ -39,19 +39,8 @@ slot_of m k = given (found m k) 0 (λ s. s)
 
 -- two memories with the same look-up
 module _ (m m' : List ℕ) (same_ids : (j : ℕ) → cell m' ids j ≡ cell m ids j) (same_chain : (j : ℕ) → cell m' chain j ≡ cell m chain j) where
-  followed_same : (p : ℕ) → followed m' p ≡ followed m p
-  unfolding followed
-  followed_same p = rw (same_chain p) refl
-
-  sought_same : (f p k : ℕ) → sought f m' p k ≡ sought f m p k
-  unfolding sought
-  sought_same zero p k = refl
-  sought_same (suc f) p k =
-      rw (followed_same p) (ap (given (followed m p) None) (fun_ext (λ s. rw (same_ids s, sought_same f (8192 + s) k) refl)))
-
   slot_same : (k : ℕ) → slot_of m k ≡ slot_of m' k
-  unfolding found
-  slot_same k = rw (sought_same 8192 (bucket k) k) refl
+  slot_same k = ap (λ (o : Option ℕ). given o 0 (λ s. s)) (sym (found_alike m m' same_ids same_chain k))
 
   pub slots_back : (r : Board) → Means m' r → renamed (slot_of m) r ≡ slot_board m'
   slots_back r M =

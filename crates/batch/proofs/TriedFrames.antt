@@ -5,6 +5,7 @@ use Rattle.row.specs.declared.board.Link.{Link}
 use Rattle.row.specs.declared.column.Column.{Column}
 use Rattle.row.specs.Columns.{cell, apart}
 use Rattle.row.specs.Layout.{slots, places}
+use Rattle.row.proofs.Walking.{given_holds}
 use Rattle.links.specs.Building.{inserted}
 use Rattle.links.specs.Removing.{removed}
 use Rattle.links.specs.Frames.{aside}
@@ -16,7 +17,6 @@ use Rattle.search.specs.Settle.{forgotten, settled}
 use Rattle.search.proofs.Touching.{meets_only}
 use Rattle.search.proofs.SettleFrames.{settles_only, forgets}
 use Rattle.keeper.specs.Linking.{slots_found}
-use Rattle.keeper.proofs.Size.{given_holds}
 use Rattle.keeper.proofs.OwnSize.{BothBelow, both_found}
 use Rattle.batch.specs.Joining.{Joined, joined_slots, joined, Tried, tried, dropped, taken_out}
 use Rattle.batch.proofs.Beside.{Beside, beside_same, beside_on}

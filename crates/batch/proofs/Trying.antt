@@ -1,12 +1,12 @@
 -- The loops that try links and take them out, step by step.
-use Rattle.std.proofs.Common.{◌≡◌, ℕ, ◌+◌, ◌<◌, ◌≤◌, List, length, get_or, drop, Some, None, Err, Option, refl, ◌∙◌}
+use Rattle.std.proofs.Common.{◌≡◌, ◌⊎◌, ℕ, ◌+◌, ◌<◌, ◌≤◌, List, length, get_or, drop, Some, None, Option, refl, inl, inr, ◌∙◌}
 use Rattle.std.proofs.lemmas.List.{at_drop_more, at_drop_all}
 use Rattle.row.specs.declared.board.Link.{Link}
-use Rattle.batch.specs.Joining.{joined, tried, unless, way_count}
+use Rattle.batch.specs.Joining.{joined, tried}
 
-pub a_way : (o : Option (List ℕ)) (n : ℕ) → unless (way_count o) ≡ Err n → (ks : List ℕ) × (o ≡ Some ks) × (n ≡ length ks)
-a_way None n e = absurd (cc)
-a_way (Some ks) n e = (ks, refl, cc)
+pub a_way : (o : Option (List ℕ)) → (o ≡ None) ⊎ ((ks : List ℕ) × (o ≡ Some ks))
+a_way None = inl refl
+a_way (Some ks) = inr (ks, refl)
 
 module _ (m : List ℕ) (ls : List Link) (i : ℕ) (h : i < length ls) where
   abbrev d : Link

@@ -1,21 +1,13 @@
 -- Lists of different numbers: one all of whose numbers are in another list is no longer; and a list without one of its numbers is shorter by one.
 use Rattle.std.proofs.Common.{◌≡◌, ℕ, suc, ◌<◌, ◌≤◌, Bool, true, false, not, eqb, List, [], ◌∷◌, length, refl, inl, inr, arith}
 use Rattle.std.proofs.lemmas.Bool.Decides.{nat_tests}
-use Rattle.std.proofs.lemmas.Bool.{cases_Bool, cases_eq, both_ways, and_parts, and_from}
+use Rattle.std.proofs.lemmas.Bool.{cases_Bool, cases_eq, both_ways, and_from}
 use Rattle.row.specs.Lists.{every, any, filter, has, distinct}
 use Rattle.row.proofs.Filters.{has_filter}
-use Rattle.row.proofs.Chaining.{has_head, has_tail, has_on, has_at, without_none}
+use Rattle.row.proofs.Chaining.{has_head, has_tail, has_on, has_at, without_none, not_again, distinct_tail}
 use Rattle.batch.specs.Rule.{without}
 
--- of a list of different numbers: the first isn't there again, and the others are different
-pub not_again : (x : ℕ) (xs : List ℕ) → distinct (x ∷ xs) ≡ true → has xs x ≡ false
-unfolding distinct
-not_again x xs d = let p = (and_parts (not (has xs x)) (distinct xs) d).0 in grind arith
-
-pub distinct_tail : (x : ℕ) (xs : List ℕ) → distinct (x ∷ xs) ≡ true → distinct xs ≡ true
-unfolding distinct
-distinct_tail x xs d = (and_parts (not (has xs x)) (distinct xs) d).1
-
+-- different numbers with one more in front
 pub distinct_cons : (x : ℕ) (xs : List ℕ) → has xs x ≡ false → distinct xs ≡ true → distinct (x ∷ xs) ≡ true
 unfolding distinct
 distinct_cons x xs n d = rw n d

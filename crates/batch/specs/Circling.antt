@@ -12,12 +12,13 @@
 --   back next n s     n steps from s, each to the next
 --   on_circle m       a slot of a circle: as many steps back as there may be cards, from the start
 --   round m n         the slots of that circle, each linked to the next; at most n of them
-use Rattle.std.specs.Prelude.{ℕ, zero, suc, ◌+◌, min, Bool, cond, ◌&&◌, List, reverse, ◌==◌, nat_lt}
+--   RoundSo m out     the circle that is noted in m is shown at the front of the output, as far as there is room, and its length told; the memory is m
+use Rattle.std.specs.Prelude.{◌≡◌, ℕ, zero, suc, ◌+◌, min, Bool, cond, ◌&&◌, List, length, reverse, ◌==◌, nat_lt}
 use Rattle.row.specs.Columns.{cell, written}
 use Rattle.row.specs.Layout.{slots, count}
 use Rattle.links.specs.Layout.{end, froms, tos}
 use Rattle.links.specs.Building.{blanked}
-use Rattle.search.specs.Way.{trail}
+use Rattle.search.specs.Way.{trail, over}
 use Rattle.batch.specs.Layout.{spare, leaves, numbers}
 use Rattle.batch.specs.Listing.{at_each}
 
@@ -55,3 +56,8 @@ on_circle m = back (cell m numbers) 8192 (start m)
 
 unfoldable pub round : List ℕ → ℕ → List ℕ
 round m n = reverse (trail (cell m numbers) n (on_circle m) (cell m numbers (on_circle m)))
+
+pub record RoundSo (m out₀ : List ℕ) (r : ℕ) (m₁ out₁ : List ℕ) : Type 0 where
+  pub is : r ≡ length (round m (length out₀))
+  pub after : m₁ ≡ m
+  pub out : out₁ ≡ over m (round m (length out₀)) r out₀

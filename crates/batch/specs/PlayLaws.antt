@@ -8,7 +8,7 @@
 --   ShowsJust p ss   shown is what ss has: these numbers, once and no others; or none at all
 --   PlaysShows       of a saying that is done, just what the promise names is shown; of links that would go round, a way by which they would; else nothing
 --   PlaysUnfit       where the memory or the output doesn't fit, the saying is refused, and nothing is changed
-use Rattle.std.specs.Prelude.{◌≡◌, ℕ, ◌≤◌, true, false, ◌≢◌, List, [], ◌∷◌, length, take, Some, None}
+use Rattle.std.specs.Prelude.{◌≡◌, ℕ, ◌≤◌, true, false, ◌≢◌, List, [], ◌∷◌, length, take, Some, None, Ok, Err}
 use Rattle.row.specs.declared.board.Refusal.{Refusal}
 use Rattle.row.specs.declared.board.Refusal.TheVariants.{Cycle}
 use Rattle.row.specs.Board.{Board, keeps}
@@ -28,9 +28,9 @@ abbrev pub Plays : Type 0
 Plays =
     (m : List ℕ) (r : Board) (s : Saying) (out : List ℕ) → length m ≡ 524288 → all_small m ≡ true → Means m r → length r.links ≤ 65536 →
     small_saying s ≡ true → 8192 ≤ length out →
-    (refused_for r s ≡ None → ((played m (said s) out).answer.refused ≡ None) × DoneSo r s (played m (said s) out).memory)
+    (refused_for r s ≡ None → ((played m (said s) out).answer.outcome ≡ Ok tt) × DoneSo r s (played m (said s) out).memory)
     × ((why : Refusal) → refused_for r s ≡ Some why →
-    ((played m (said s) out).answer.refused ≡ Some (ByBoard why)) × Means (played m (said s) out).memory r)
+    ((played m (said s) out).answer.outcome ≡ Err (ByBoard why)) × Means (played m (said s) out).memory r)
 
 abbrev pub front : Ending → List ℕ
 front p = take p.answer.shown p.out
@@ -51,4 +51,4 @@ PlaysShows =
 abbrev pub PlaysUnfit : Type 0
 PlaysUnfit =
     (m : List ℕ) (s : Saying) (out : List ℕ) → step_fits m out ≡ false →
-    played m (said s) out ≡ record { answer = record { shown = 0; refused = Some Unfit }; memory = m; out = out }
+    played m (said s) out ≡ record { answer = record { shown = 0; outcome = Err Unfit }; memory = m; out = out }

@@ -4,7 +4,7 @@
 --                      nothing is changed
 --   plays n m h out s  what is heard played to its end, in at most n steps; s numbers are shown so far
 --   played m h out     in at most three
-use Rattle.std.specs.Prelude.{ℕ, zero, suc, cond, List, Some, Err}
+use Rattle.std.specs.Prelude.{ℕ, zero, suc, cond, List, Err}
 use Rattle.keeper.specs.declared.event.Reason.TheVariants.{Unfit, Busy}
 use Rattle.keeper.specs.Own.{step_fits}
 use Rattle.keeper.specs.Playing.{fronted, Stepped, Ending, by_act}
@@ -17,7 +17,7 @@ stepped m h out =
     (record { act = Err Unfit; memory = m; out = out })
 
 unfoldable pub plays : ℕ → List ℕ → Heard → List ℕ → ℕ → Ending
-plays zero m h out s = record { answer = record { shown = s; refused = Some Busy }; memory = m; out = out }
+plays zero m h out s = record { answer = record { shown = s; outcome = Err Busy }; memory = m; out = out }
 plays (suc n) m h out s =
     by_act (λ m₁ out₁ s₁. plays n m₁ next out₁ s₁) (stepped m h out).memory (stepped m h out).out s (stepped m h out).act
 

@@ -16,7 +16,7 @@ fn card_at(memory: &[u64], place: u64) -> u64
     IDS.get(memory, SLOTS.get(memory, place))
 }
 
-// The slot of the card whose number stands at `i`.
+// The slot of the card whose number stands at `i`. In any sound memory the card is there; in another any slot will do.
 #[tactic(auto, unfolding(crate::specs::Arranging::slot_at))]
 fn slot_at(memory: &[u64], i: u64) -> u64
     ensures { result ≡ slot_at memory.now i }

@@ -8,7 +8,8 @@ use crate::seating::Span;
 use keeper::slots_of;
 use row::{CARDS, Link, place_at};
 
-// The places from the first card that some links name to the last; and whether one of the links goes backward.
+// The places from the first card that some links name to the last; and whether one of the links goes backward. One pass over the links finds both; the span
+// is told only if one of them does.
 #[derive(Clone, Copy)]
 struct Named {
     span: Span,
@@ -63,16 +64,13 @@ fn is_said(memory: &[u64], before: &[Link], link: Link) -> bool
 }
 
 // Whether one of the links was said already, or stands in the batch twice.
-#[tactic(auto, using(crate::proofs::Checks::repeating))]
 pub(crate) fn repeats(memory: &[u64], batch: &[Link]) -> bool
     ensures { result ≡ repeated memory.now [] batch.now }
 {
-    for (i, link) in batch.iter().enumerate() {
-        if is_said(memory, &batch[..i], *link) {
-            return true;
-        }
-    }
-    false
+    batch
+        .iter()
+        .enumerate()
+        .any(|(i, link)| is_said(memory, &batch[..i], *link))
 }
 
 // What is named, widened to the places of a link's two cards.

@@ -1,18 +1,17 @@
 // A circle of links among the cards that don't come by the rule.
 //
-// Each card that hasn't come waits for one that hasn't come either. So one step back after the other, as many as there may be cards, leads to a card of a
-// circle, and from there on round it. Two columns serve anew: LEAVES has a 1 for each slot that has come, and NUMBERS has for a slot one that hasn't come
-// and is linked to it.
-ghost use Rattle.std.specs.Prelude.{◌≡◌, length};
+// Each card that hasn't come waits for one that hasn't come either. So one step back after the other, as many as there may be cards, leads to a card of
+// a circle, and from there on round it. Two columns serve anew: LEAVES has a 1 for each slot that has come, and NUMBERS has for a slot one that hasn't
+// come and is linked to it. LEAVES is a set of slots then: the column is there already, and its counts aren't needed any more.
+ghost use Rattle.std.specs.Prelude.{◌≡◌};
 ghost use Rattle.row.specs.Columns.{cell};
-ghost use Rattle.search.specs.Way.{over};
 ghost use Rattle.batch.specs.Layout.{numbers};
-ghost use Rattle.batch.specs.Circling.{flagged, stays, noted, notes, traced, start, back, round};
+ghost use Rattle.batch.specs.Circling.{flagged, stays, noted, notes, traced, start, back, RoundSo};
 
 use crate::layout::{LEAVES, NUMBERS, SPARE};
 use crate::seating::row_len;
-use links::{END, ENTRIES, from_of, to_of};
-use row::{CARDS, SLOTS, TALLY};
+use links::{ENTRIES, from_of, to_of, used};
+use row::{CARDS, SLOTS};
 use search::show_trail;
 
 // Notes of the first n slots in SPARE that they have come.
@@ -46,17 +45,17 @@ fn note(memory: &mut [u64], entry: u64)
     }
 }
 
-// So for each entry of the table.
+// Notes for each slot that a link of the table goes into one that such a link comes out of and that hasn't come, if there is one.
 #[tactic(auto, using(crate::proofs::PlaceByPlace::turns), unfolding(crate::specs::Circling::noted_all))]
 fn note_all(memory: &mut [u64])
     ensures { memory.new ≡ notes memory.old }
 {
-    for entry in 0..TALLY.get(memory, END).min(ENTRIES) {
+    for entry in 0..used(memory).min(ENTRIES) {
         note(memory, entry);
     }
 }
 
-// Notes all that, after n slots have come.
+// Notes which slots have come, after n have, and for each slot one that hasn't and is linked to it.
 #[tactic(auto, unfolding(crate::specs::Circling::traced, links::specs::Building::blanked))]
 fn trace(memory: &mut [u64], n: u64)
     ensures { memory.new ≡ traced memory.old n }
@@ -66,7 +65,7 @@ fn trace(memory: &mut [u64], n: u64)
     note_all(memory);
 }
 
-// The first slot in the row that hasn't come.
+// The first slot in the row that hasn't come. In any sound memory there is one, if not all have come; in another any slot will do.
 fn first_left(memory: &[u64]) -> u64
     ensures { result ≡ start memory.now }
 {
@@ -84,11 +83,8 @@ fn go_back(memory: &[u64], first: u64) -> u64
 }
 
 // Writes the cards of a circle to the front of `out`, each linked to the next, after n slots have come; says how many.
-#[tactic(auto, using(search::proofs::Joining::turned_front), unfolding(crate::specs::Circling::on_circle, crate::specs::Circling::round))]
 pub(crate) fn show_circle(memory: &mut [u64], n: u64, out: &mut [u64]) -> u64
-    ensures is { result ≡ length (round (traced memory.old n) (length out.old)) }
-    ensures after { memory.new ≡ traced memory.old n }
-    ensures out { out.new ≡ over (traced memory.old n) (round (traced memory.old n) (length out.old)) result out.old }
+    ensures { RoundSo (traced memory.old n) out.old result memory.new out.new }
 {
     trace(memory, n);
     let last = go_back(memory, first_left(memory));

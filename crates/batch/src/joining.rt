@@ -14,8 +14,8 @@ pub(crate) struct Round {
     pub shown: u64,
 }
 
-// Puts a link between slots in, with the row settled for it if it goes backward. If it would go round, says how many cards the way has, which is written
-// to the front of `out`.
+// Puts a link between slots in, with the row settled for it if it goes backward. If it would go round, the error is how many cards the way has, which
+// is written to the front of `out`.
 #[tactic(auto, using(search::proofs::Joining::shown_is), unfolding(crate::specs::Joining::joined_slots, keeper::specs::Reordering::round_cards))]
 fn join_slots(memory: &mut [u64], slots: Link, out: &mut Output) -> Result<(), u64>
     ensures { JoinedSo (joined_slots memory.old slots) out.old result memory.new out.new }
@@ -30,7 +30,8 @@ fn join_slots(memory: &mut [u64], slots: Link, out: &mut Output) -> Result<(), u
     Ok(())
 }
 
-// The same for a link between cards. A card before itself goes round: it is the way alone.
+// Puts a link between cards in, if both are there, with the row settled for it if it goes backward. If it would go round, the error is how many cards
+// the way has, which is written to the front of `out`. A card before itself goes round: it is the way alone.
 #[tactic(auto, unfolding(crate::specs::Joining::joined))]
 fn join(memory: &mut [u64], link: Link, out: &mut Output) -> Result<(), u64>
     ensures { JoinedSo (joined memory.old link) out.old result memory.new out.new }
@@ -52,9 +53,7 @@ pub(crate) fn join_all(memory: &mut [u64], batch: &[Link], out: &mut Output) -> 
     ensures within { IfErr result (λ round. round.count ≤ length batch.now) }
 {
     for (count, link) in batch.iter().enumerate() {
-        if let Err(shown) = join(memory, *link, out) {
-            return Err(Round { count, shown });
-        }
+        join(memory, *link, out).map_err(|shown| Round { count, shown })?;
     }
     Ok(())
 }

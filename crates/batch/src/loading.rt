@@ -28,7 +28,7 @@ fn put_one(memory: &mut [u64], link: Link)
     }
 }
 
-// So for each of the links.
+// Puts each of the links whose cards are there into the table.
 #[tactic(auto, unfolding(crate::specs::Loading::put_all))]
 fn put_all(memory: &mut [u64], links: &[Link])
     ensures { memory.new ≡ put_all memory.old links.now }

@@ -12,8 +12,8 @@ use crate::renewing::renew;
 use keeper::{MEMORY, OUTPUT, Reason};
 use row::{IDS, Link};
 
-// How a row is made anew: so many cards at the front of the output, which is lent, are the new row; or they are a circle, each linked to the next and the
-// last to the first.
+// How a row is made anew: so many cards at the front of the output, which is lent, are the new row; or they are a circle, each linked to the next and
+// the last to the first. A circle is an answer and no failure, and the names say what the numbers are.
 #[derive(Clone, Copy, Debug, PartialEq, Eq)]
 pub enum Anew {
     Row(u64),
@@ -31,7 +31,7 @@ fn show_row(memory: &[u64], n: u64, out: &mut [u64])
     }
 }
 
-// Makes the row of a memory anew, and shows it, or a circle.
+// Makes the row of a memory anew, and shows it, or a circle. The output's length is asked for, and no type: a circle may be as long as the whole output.
 #[tactic(auto, unfolding(crate::specs::MakingAnew::ended))]
 fn finish(memory: &mut [u64], out: &mut [u64]) -> Anew
     requires { 8192 ≤ length out.old }
@@ -45,8 +45,8 @@ fn finish(memory: &mut [u64], out: &mut [u64]) -> Anew
     Anew::Row(n)
 }
 
-// Makes the row anew by the rule, with these links: the row by the rule is written to the front of `out`, or a circle, if the links go round. Whatever stood
-// in the memory is gone then.
+// Makes the row anew by the rule, with these links: the row by the rule is written to the front of `out`, or a circle, if the links go round. Whatever
+// stood in the memory is gone then.
 #[tactic(auto, using(crate::proofs::MakesAnew::makes_anew), unfolding(crate::specs::MakingAnew::made_anew, crate::specs::MakingAnew::made))]
 pub fn make_anew(
     memory: &mut [u64],

@@ -112,13 +112,14 @@ fn release_one(memory: &mut [u64], pointer: u64) -> Option<u64>
     }
 }
 
-// Such a walk, of at most so many turns.
+// A walk through the links out of a slot: what each goes into waits for one fewer. Each turn writes to the memory, which an iterator over the links
+// would hold lent; and there are no more turns than links were counted, whatever the memory holds.
 #[tactic(auto, using(crate::proofs::RenewSteps::releasing))]
 fn release(memory: &mut [u64], slot: u64, turns: u64)
     ensures { memory.new ≡ released turns memory.old slot }
 {
     let mut pointer = slot;
-    for _i in 0..turns {
+    for _turn in 0..turns {
         let Some(next) = release_one(memory, pointer) else {
             return;
         };
@@ -147,7 +148,8 @@ fn draw(memory: &mut [u64], place: u64, i: u64)
     let_go(memory, slot);
 }
 
-// Makes the row anew by the rule: writes the slots to SPARE in the order in which they come, and says how many come; all, unless links go round.
+// Makes the row anew by the rule: writes the slots to SPARE in the order in which they come, and says how many come; all, unless links go round. That not
+// all come is no failure: how many came is what a circle is shown by.
 #[tactic(auto, using(crate::proofs::RenewSteps::renews), unfolding(crate::specs::Renewing::renewed))]
 pub(crate) fn renew(memory: &mut [u64]) -> u64
     ensures is { result ≡ (renewed memory.old).came }

@@ -5,7 +5,7 @@ ghost use Rattle.batch.specs.Seating.{saved, reseated};
 
 use crate::layout::SPARE;
 use crate::listing::fill;
-use row::{CARDS, PLACES, SLOTS};
+use row::{CARDS, SLOTS, seat};
 
 // How many cards the row has; no more than there may be, whatever stands in the memory.
 pub(crate) fn row_len(memory: &[u64]) -> u64
@@ -48,8 +48,7 @@ impl Span {
     {
         for place in self.low..self.high.min(CARDS) {
             let slot = SPARE.get(memory, place);
-            SLOTS.set(memory, place, slot);
-            PLACES.set(memory, slot, place);
+            seat(memory, place, slot);
         }
     }
 }

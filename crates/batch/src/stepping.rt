@@ -23,8 +23,8 @@ fn hear(memory: &mut Memory, event: Event, batch: &[Link], out: &mut Output) -> 
     }
 }
 
-// One step: the answer to an event, the memory after it, and what is told or shown at the front of `out`. The batch is read only for `Several`. The engine
-// whose steps these are meets the promise within three steps; whatever stands in the memory, its answers fit.
+// One step: the answer to an event, the memory after it, and what is told or shown at the front of `out`. The batch is read only for `Several`. The
+// engine whose steps these are meets the promise within three steps; whatever stands in the memory, its answers fit.
 #[tactic(auto, using(crate::proofs::Beginnings::beginnings))]
 pub fn step(
     memory: &mut [u64],

@@ -6,7 +6,8 @@ use crate::arranging::arrange;
 use crate::renewing::renew;
 use crate::seating::{Span, row_len};
 
-// Makes the row anew by the rule, from the order of the cards' numbers on, and says whether all cards came: they do unless links go round.
+// Makes the row anew by the rule, from the order of the cards' numbers on, and says whether all cards came: they do unless links go round, which they
+// can't in a sound memory. So there is nothing to tell of a failure but that.
 #[tactic(auto, unfolding(crate::specs::Tidying::tidied))]
 pub(crate) fn tidy(memory: &mut [u64]) -> bool
     ensures is { result ≡ (tidied memory.old).all }

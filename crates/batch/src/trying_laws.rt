@@ -37,7 +37,7 @@ pub fn undoes_stands() -> u8
     0
 }
 
-// The same where no part of the row was put aside.
+// After links were tried and undone, where no part of the row was put aside, the memory means the board that it meant before.
 pub fn undoes_none_stands() -> u8
     ensures { UndoesNone }
 {

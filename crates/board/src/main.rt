@@ -16,6 +16,7 @@ use program::Program;
 use row::Link;
 use sayings::{Saying, Sayings};
 use std::alloc::AllocError;
+use std::env;
 use std::fmt::Write;
 use std::process::ExitCode;
 
@@ -105,15 +106,15 @@ impl Player {
     // Plays a saying, and writes the line that answers it.
     fn answer(&mut self, saying: Saying) -> anyhow::Result<()> {
         let played = self.play(saying)?;
-        let n = match played.refused {
-            Some(reason) => {
+        let n = match played.outcome {
+            Err(reason) => {
                 let number = u64::from(reason);
                 let way = if played.shown > 0 { ": " } else { "" };
                 write!(self.lines, "refused {number}{way}")?;
                 played.shown
             }
-            None if played.shown > 0 => played.shown,
-            None => read_row(self.memory.as_slice(), self.out.as_mut_slice()),
+            Ok(()) if played.shown > 0 => played.shown,
+            Ok(()) => read_row(self.memory.as_slice(), self.out.as_mut_slice()),
         };
         self.write_out(n as usize)?;
         self.lines.push_str("\n")?;
@@ -147,5 +148,5 @@ fn play_bytes(rt: &HostRuntime, bytes: &[u8]) -> anyhow::Result<()> {
 }
 
 fn main(rt: HostRuntime) -> ExitCode {
-    BOARD.run(&rt, play_bytes)
+    BOARD.run(&rt, env::args(&rt), play_bytes)
 }

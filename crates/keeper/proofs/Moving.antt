@@ -49,12 +49,9 @@ use Rattle.search.specs.Meaning.{Parted}
 use Rattle.search.specs.SettleLaws.{Settled}
 use Rattle.search.proofs.RowSettled.{settles as row_settles}
 use Rattle.search.proofs.Frames.{cells_alone}
+use Rattle.search.proofs.Showing.{map_same}
 use Rattle.keeper.specs.Reordering.{moved}
 use Rattle.keeper.proofs.Backward.{forgotten_ready, forgotten_edges, forgotten_tally, forgotten_board}
-
-map_same : (f g : ℕ → ℕ) → ((k : ℕ) → f k ≡ g k) → (xs : List ℕ) → map f xs ≡ map g xs
-map_same f g h [] = refl
-map_same f g h (x ∷ xs) = ap₂ ◌∷◌ (h x) (map_same f g h xs)
 
 module _ (m : List ℕ) (R : Ready m) (o : once (edges m) ≡ true) (i : pending m ≡ 0) (l : Link) (sm : small_command (Links l) ≡ true)
     (s t : ℕ) (A : Seated m l.from s) (B : Seated m l.to t) (ha : has (cards m) l.from ≡ true) (hb : has (cards m) l.to ≡ true)

@@ -12,6 +12,7 @@ use Rattle.row.specs.Columns.{cell}
 use Rattle.row.specs.Layout.{tally, ids, places}
 use Rattle.row.specs.Lookup.{found, Below}
 use Rattle.row.specs.Moves.{came, gone, place_found}
+use Rattle.row.proofs.Walking.{given_holds}
 use Rattle.links.specs.Entries.{found as entry_found}
 use Rattle.links.specs.Layout.{live}
 use Rattle.links.specs.Building.{inserted}
@@ -36,7 +37,7 @@ use Rattle.keeper.specs.Telling.{middle, left_to_tell, told_part}
 use Rattle.keeper.specs.Reordering.{round_cards, shown_round, moved, reordered}
 use Rattle.keeper.specs.Linking.{slots_found, unlinked, put_in, linked}
 use Rattle.keeper.specs.Own.{left, shown_places, said, finished, went_on, answer, steps, own}
-use Rattle.keeper.proofs.Size.{every_getD, small_take, small_map, small_cell, size_same, size_then, size_written, cond_holds, given_holds, guarded_fits, fits_tells, fits_shows}
+use Rattle.keeper.proofs.Size.{every_getD, small_take, small_map, small_cell, size_same, size_then, size_written, cond_holds, guarded_fits, fits_tells, fits_shows}
 use Rattle.keeper.proofs.RowSize.{found_below, size_came, size_gone}
 use Rattle.keeper.proofs.Zeros.{steady_zeros}
 

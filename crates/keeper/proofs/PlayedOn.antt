@@ -1,11 +1,12 @@
 -- A command that is played goes from answer to answer as its model does.
-use Rattle.std.proofs.Common.{◌≡◌, ℕ, zero, suc, ◌-◌, Bool, true, false, List, Result, refl, ap, arith}
+use Rattle.std.proofs.Common.{◌≡◌, ℕ, suc, ◌+◌, ◌-◌, ◌<◌, Bool, true, false, List, Some, None, Ok, Err, Result, sym, refl, ap, subst, arith}
 use Rattle.keeper.specs.declared.event.Event.{Event}
 use Rattle.keeper.specs.declared.event.Event.TheVariants.{Next}
 use Rattle.keeper.specs.declared.event.Reason.{Reason}
 use Rattle.keeper.specs.declared.event.Act.{Act}
+use Rattle.keeper.specs.declared.event.Act.TheVariants.{Tells, Shows, Done}
 use Rattle.keeper.specs.Own.{step_fits, StepBy, StepSays}
-use Rattle.keeper.specs.Playing.{Stepped, stepped, by_act, plays, played_on}
+use Rattle.keeper.specs.Playing.{Stepped, stepped, Went, by_act, plays, shown_then, ended_by, played_on}
 
 abbrev pub to : Result Act Reason → List ℕ → List ℕ → Stepped
 to r m out = record { act = r; memory = m; out = out }
@@ -16,14 +17,41 @@ unfolding stepped StepBy
 stepped_by true m ev out r m₁ out₁ f t = rw (f, t.act, t.memory, t.told)
 stepped_by false m ev out r m₁ out₁ f t = rw (f, t.act, t.memory, t.told)
 
-module _ (m : List ℕ) (ev : Event) (out : List ℕ) (r : Result Act Reason) (m₁ out₁ : List ℕ) (s : ℕ) (t : StepSays m ev out r m₁ out₁) where
-  -- what comes of an event is what comes of its answer
-  pub plays_on : (n : ℕ) → plays (suc n) m ev out s ≡ played_on n m₁ r out₁ s
-  unfolding plays
-  plays_on n =
-      ap (λ (x : Stepped). by_act (λ m₂ out₂ s₂. plays n m₂ Next out₂ s₂) x.memory x.out s x.act)
-      (stepped_by (step_fits m out) m ev out r m₁ out₁ refl t)
+-- what comes of an event is what comes of its answer
+pub plays_on : (m : List ℕ) (ev : Event) (out : List ℕ) (r : Result Act Reason) (m₁ out₁ : List ℕ) (s : ℕ) → StepSays m ev out r m₁ out₁ → (n : ℕ) →
+    plays (suc n) m ev out s ≡ played_on n m₁ r out₁ s
+unfolding plays
+plays_on m ev out r m₁ out₁ s t n =
+    ap (λ (x : Stepped). by_act (λ m₂ out₂ s₂. plays n m₂ Next out₂ s₂) x.memory x.out s x.act)
+    (stepped_by (step_fits m out) m ev out r m₁ out₁ refl t)
 
-  pub plays_then : (k : ℕ) → (k ≡ 0 → ⊥) → plays k m ev out s ≡ played_on (k - 1) m₁ r out₁ s
-  plays_then zero n = absurd (n refl)
-  plays_then (suc k) n = let e : suc k - 1 ≡ k = omega arith in rw e (plays_on k)
+pub goes_on : (i : ℕ) → i < 2 → (m : List ℕ) (a : Result Act Reason) (out : List ℕ) (r : Result Act Reason) (m₁ out₁ : List ℕ) →
+    StepSays m Next out r m₁ out₁ → (s n : ℕ) → shown_then s a ≡ Some n → played_on (2 - i) m a out s ≡ played_on (2 - (i + 1)) m₁ r out₁ n
+unfolding by_act
+goes_on i l m (Ok (Tells p k)) out r m₁ out₁ t s n e =
+    let z : 2 - i ≡ suc (2 - (i + 1)) = omega arith in
+    let y : s ≡ n = cc in
+    rw (z, y) (plays_on m Next out r m₁ out₁ n t (2 - (i + 1)))
+goes_on i l m (Ok (Shows k)) out r m₁ out₁ t s n e =
+    let z : 2 - i ≡ suc (2 - (i + 1)) = omega arith in
+    let y : k ≡ n = cc in
+    rw (z, y) (plays_on m Next out r m₁ out₁ n t (2 - (i + 1)))
+goes_on i l m (Ok Done) out r m₁ out₁ t s n e = cc
+goes_on i l m (Err w) out r m₁ out₁ t s n e = cc
+
+pub ends : (k : ℕ) (m : List ℕ) (a : Result Act Reason) (out : List ℕ) (s : ℕ) → shown_then s a ≡ None → Went (played_on k m a out s) (ended_by s a) m out
+unfolding by_act
+ends k m (Ok (Tells p n)) out s e = cc
+ends k m (Ok (Shows n)) out s e = cc
+ends k m (Ok Done) out s e = record { answer = refl; after = refl; told = refl }
+ends k m (Err w) out s e = record { answer = refl; after = refl; told = refl }
+
+at_last : (m : List ℕ) (a : Result Act Reason) (out : List ℕ) (s : ℕ) → Went (played_on 0 m a out s) (ended_by s a) m out
+unfolding by_act plays
+at_last m (Ok (Tells p n)) out s = record { answer = refl; after = refl; told = refl }
+at_last m (Ok (Shows n)) out s = record { answer = refl; after = refl; told = refl }
+at_last m (Ok Done) out s = record { answer = refl; after = refl; told = refl }
+at_last m (Err e) out s = record { answer = refl; after = refl; told = refl }
+
+pub last_ends : (k : ℕ) (m : List ℕ) (a : Result Act Reason) (out : List ℕ) (s : ℕ) → k ≡ 0 → Went (played_on k m a out s) (ended_by s a) m out
+last_ends k m a out s e = subst (λ (x : ℕ). Went (played_on x m a out s) (ended_by s a) m out) (sym e) (at_last m a out s)

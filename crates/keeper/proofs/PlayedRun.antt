@@ -1,5 +1,5 @@
 -- A command that is played goes as it runs on the engine: the same memory after it, and refused for the reason by which the run ended.
-use Rattle.std.proofs.Common.{◌≡◌, ℕ, zero, suc, ◌≤◌, true, cond, ◌&&◌, ltb, leb, List, [], length, take, drop, Some, None, Option, Ok, Err, Result, sym, refl, ap, ◌∙◌, subst, inl, inr, arith, length-append, length-drop}
+use Rattle.std.proofs.Common.{◌≡◌, ℕ, zero, suc, ◌≤◌, true, cond, ◌&&◌, ltb, leb, List, [], length, take, drop, Ok, Err, Result, sym, refl, ap, ◌∙◌, subst, inl, inr, arith, length-append, length-drop}
 use lib.ListN.{length-replicate}
 use Rattle.std.proofs.lemmas.Bool.Decides.{nat_tests as tests}
 use Rattle.std.proofs.lemmas.Bool.{cases_Bool}
@@ -27,11 +27,11 @@ use Rattle.keeper.proofs.Saying.{number_fits}
 use Rattle.keeper.proofs.Wholly.{kept}
 
 -- done if the run was done, and refused by the board if the run was
-abbrev pub SoEnded : ℕ → List ℕ → Option Reason → List ℕ → Type 0
-SoEnded k m o m₁ = (k ≡ 0 → (o ≡ None) × (m₁ ≡ m)) × ((w : Refusal) → k ≡ number w → (o ≡ Some (ByBoard w)) × (m₁ ≡ m))
+abbrev pub SoEnded : ℕ → List ℕ → Result (Unit {0}) Reason → List ℕ → Type 0
+SoEnded k m o m₁ = (k ≡ 0 → (o ≡ Ok tt) × (m₁ ≡ m)) × ((w : Refusal) → k ≡ number w → (o ≡ Err (ByBoard w)) × (m₁ ≡ m))
 
 abbrev pub Agrees : Ran → Ending → Type 0
-Agrees v p = SoEnded v.end v.memory p.answer.refused p.memory
+Agrees v p = SoEnded v.end v.memory p.answer.outcome p.memory
 
 number_once : (v w : Refusal) → number v ≡ number w → v ≡ w
 number_once Missing Missing e = refl
@@ -52,7 +52,7 @@ number_once Full Cycle e = absurd (omega arith)
 number_once Full Full e = refl
 
 -- an end that is neither of them
-pub neither : (k : ℕ) (m : List ℕ) (o : Option Reason) (m₁ : List ℕ) → (k ≡ 0 → ⊥) → ((w : Refusal) → k ≡ number w → ⊥) → SoEnded k m o m₁
+pub neither : (k : ℕ) (m : List ℕ) (o : Result (Unit {0}) Reason) (m₁ : List ℕ) → (k ≡ 0 → ⊥) → ((w : Refusal) → k ≡ number w → ⊥) → SoEnded k m o m₁
 neither k m o m₁ h g = ((λ z. absurd (h z)), λ w z. absurd (g w z))
 
 pub high : (k : ℕ) → 1000 ≤ k → (w : Refusal) → k ≡ number w → ⊥
@@ -71,9 +71,9 @@ ended_by Exists = refl
 ended_by Cycle = refl
 ended_by Full = refl
 
-board_agrees : (v : Refusal) (k : ℕ) (m : List ℕ) → k ≡ number v → SoEnded k m (Some (ByBoard v)) m
+board_agrees : (v : Refusal) (k : ℕ) (m : List ℕ) → k ≡ number v → SoEnded k m (Err (ByBoard v)) m
 board_agrees v k m e =
-    ((λ z. absurd (omega (arith, (three_up v).0))), λ w z. (ap (λ (x : Refusal). Some (ByBoard x)) (number_once v w (sym e ∙ z)), refl))
+    ((λ z. absurd (omega (arith, (three_up v).0))), λ w z. (ap (λ (x : Refusal). Err (ByBoard x)) (number_once v w (sym e ∙ z)), refl))
 
 module _ (go : Go) (on : List ℕ → List ℕ → ℕ → Ending) (ts : List Told) (ss : List (List ℕ)) (m out : List ℕ) (s : ℕ) where
   refused_agrees : (e : Reason) (ks : List ℕ) → Agrees (one_act go ts ss m (action_of (Err e) ks)) (by_act on m out s (Err e))

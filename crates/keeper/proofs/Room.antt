@@ -8,6 +8,7 @@ use Rattle.row.specs.declared.board.Link.{Link}
 use Rattle.row.specs.Columns.{cell}
 use Rattle.row.specs.Layout.{tally, ids, slots, places}
 use Rattle.row.specs.Moves.{place_found}
+use Rattle.row.proofs.Walking.{given_holds}
 use Rattle.links.specs.Entries.{found as entry_found}
 use Rattle.links.specs.Layout.{live}
 use Rattle.links.specs.Building.{inserted}
@@ -24,7 +25,7 @@ use Rattle.keeper.specs.Reordering.{round_cards, shown_round, moved, reordered}
 use Rattle.keeper.specs.Linking.{slots_found, linked}
 use Rattle.keeper.specs.Own.{shown_places, said, went_on, answer}
 use Rattle.keeper.proofs.OwnSize.{Any}
-use Rattle.keeper.proofs.Size.{cond_holds, given_holds}
+use Rattle.keeper.proofs.Size.{cond_holds}
 
 abbrev pub Few : Answer → Type 0
 Few a = length a.numbers ≤ 8192

@@ -6,9 +6,10 @@ use Rattle.row.specs.Columns.{cell}
 use Rattle.row.specs.Layout.{tally, ids, chain, slots, places, count}
 use Rattle.row.specs.Lookup.{bucket, followed, entry, sought, found, entered, withdrawn, Below, EntryBelow}
 use Rattle.row.specs.Moves.{Outcome, room, slot_for, taken, arrived, came, shifted, last, closed, gone}
+use Rattle.row.proofs.Walking.{given_holds}
 use Rattle.keeper.specs.Promise.{all_small}
 use Rattle.keeper.specs.Sized.{KeepsSize}
-use Rattle.keeper.proofs.Size.{given_holds, small_cell, size_same, size_then, size_written, cond_holds}
+use Rattle.keeper.proofs.Size.{small_cell, size_same, size_then, size_written, cond_holds}
 
 abbrev Any : {X : Type 0} → Option X → Type 0
 Any o = Unit {0}

@@ -1,11 +1,10 @@
 -- Memory keeps its length, and its numbers stay below 2^64, through bounded writes; and answers fit what carries them.
-use Rattle.std.proofs.Common.{◌≡◌, ℕ, zero, suc, ◌+◌, ◌<◌, ◌≤◌, Bool, true, cond, ltb, List, [], ◌∷◌, map, length, get_or, take, set, Some, None, Option, refl, ◌∙◌, inl, inr, arith}
+use Rattle.std.proofs.Common.{◌≡◌, ℕ, zero, suc, ◌+◌, ◌<◌, ◌≤◌, Bool, true, cond, ltb, List, [], ◌∷◌, map, length, get_or, take, set, refl, ◌∙◌, inl, inr, arith}
 use Rattle.std.proofs.lemmas.Bool.{cases_Bool, cond_both, and_parts, and_from, lt-ltb, ltb-true, le-leb}
 use Rattle.row.specs.declared.board.Command.{Command}
 use Rattle.row.specs.declared.column.Column.{Column}
 use Rattle.row.specs.Lists.{every}
 use Rattle.row.specs.Columns.{cell, written}
-use Rattle.row.specs.Lookup.{given}
 use Rattle.row.proofs.Cells.{length_written}
 use Rattle.row.proofs.Filters.{every_take}
 use Rattle.keeper.specs.declared.event.Event.{Event}
@@ -68,12 +67,6 @@ size_written m m₁ c i v l b = (length_written m₁ c i v ∙ b.0, λ h. small_
 -- what holds of one and of the other, holds of the one that a test picks
 pub cond_holds : {Y : Type 0} (B : Y → Type 0) (t : Bool) (a b : Y) → B a → B b → B (cond t a b)
 cond_holds B t a b p q = cond_both t a b B (λ _. p) (λ _. q)
-
--- what holds of an answer that goes by a look-up
-pub given_holds : {X Y : Type 0} (A : Option X → Type 0) (B : Y → Type 0) (o : Option X) (z : Y) (f : X → Y) → A o → B z → ((x : X) → A (Some x) → B (f x)) →
-    B (given o z f)
-given_holds A B None z f a b k = b
-given_holds A B (Some x) z f a b k = k x a
 
 -- the guard
 pub guarded_small : (f : List ℕ → Event → Step) (m : List ℕ) (ev : Event) → small_event ev ≡ true → guarded f m ev ≡ f m ev

@@ -6,7 +6,7 @@
 --                    command that the board refuses is refused for the board's reason, and the memory means the same board
 --   PlaysUnfit       where the memory or the output doesn't fit, the command is refused, and nothing is changed
 --   ReadsRow         the row that is read from a memory that means a board is the board's
-use Rattle.std.specs.Prelude.{◌≡◌, ℕ, ◌≤◌, true, false, List, ◌++◌, length, drop, Some, None}
+use Rattle.std.specs.Prelude.{◌≡◌, ℕ, ◌≤◌, true, false, List, ◌++◌, length, drop, Some, None, Ok, Err}
 use Rattle.row.specs.declared.board.Command.{Command}
 use Rattle.row.specs.declared.board.Refusal.{Refusal}
 use Rattle.row.specs.Board.{Board, fine, keeps}
@@ -27,13 +27,13 @@ abbrev pub Plays : Type 0
 Plays =
     (m : List ℕ) (r : Board) (c : Command) (out : List ℕ) → length m ≡ 524288 → all_small m ≡ true → Means m r → fine r ≡ true →
     small_command c ≡ true → 8192 ≤ length out →
-    (refusal r c ≡ None → ((played m c out).answer.refused ≡ None) × DoneSo r c (played m c out).memory)
-    × ((why : Refusal) → refusal r c ≡ Some why → ((played m c out).answer.refused ≡ Some (ByBoard why)) × Means (played m c out).memory r)
+    (refusal r c ≡ None → ((played m c out).answer.outcome ≡ Ok tt) × DoneSo r c (played m c out).memory)
+    × ((why : Refusal) → refusal r c ≡ Some why → ((played m c out).answer.outcome ≡ Err (ByBoard why)) × Means (played m c out).memory r)
 
 abbrev pub PlaysUnfit : Type 0
 PlaysUnfit =
     (m : List ℕ) (c : Command) (out : List ℕ) → step_fits m out ≡ false →
-    played m c out ≡ record { answer = record { shown = 0; refused = Some Unfit }; memory = m; out = out }
+    played m c out ≡ record { answer = record { shown = 0; outcome = Err Unfit }; memory = m; out = out }
 
 abbrev pub ReadsRow : Type 0
 ReadsRow =

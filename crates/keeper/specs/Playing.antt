@@ -8,9 +8,11 @@
 --   Went e             what came of it is the ending e
 --   by_act go          what comes of one answer: go on, or be at the end; what is told is passed over, and of what is shown the count is noted
 --   plays n            an event and what comes of it, in at most n steps; if they aren't enough, it is refused
+--   shown_then s a     how many numbers it has shown after the answer a, if it had shown s before; none, if a is its end
+--   ended_by s a       how it ended, if it had shown s numbers before its last answer a
 --   played_on n        an answer and what comes of it, in at most n more steps
 --   played m c out     the command c, in at most three steps
-use Rattle.std.specs.Prelude.{◌≡◌, ℕ, zero, suc, cond, List, ◌++◌, length, drop, Some, None, Ok, Err, Result}
+use Rattle.std.specs.Prelude.{◌≡◌, ℕ, zero, suc, cond, List, ◌++◌, length, drop, Some, None, Option, Ok, Err, Result}
 use Rattle.row.specs.declared.board.Command.{Command}
 use Rattle.keeper.specs.declared.event.Event.{Event}
 use Rattle.keeper.specs.declared.event.Event.TheVariants.{Said, Next}
@@ -47,13 +49,25 @@ pub record Went (e : Ending) (r : Played) (m₁ out₁ : List ℕ) : Type 0 wher
 unfoldable pub by_act : (List ℕ → List ℕ → ℕ → Ending) → List ℕ → List ℕ → ℕ → Result Act Reason → Ending
 by_act go m out s (Ok (Tells p n)) = go m out s
 by_act go m out s (Ok (Shows n)) = go m out n
-by_act go m out s (Ok Done) = record { answer = record { shown = s; refused = None }; memory = m; out = out }
-by_act go m out s (Err e) = record { answer = record { shown = s; refused = Some e }; memory = m; out = out }
+by_act go m out s (Ok Done) = record { answer = record { shown = s; outcome = Ok tt }; memory = m; out = out }
+by_act go m out s (Err e) = record { answer = record { shown = s; outcome = Err e }; memory = m; out = out }
 
 unfoldable pub plays : ℕ → List ℕ → Event → List ℕ → ℕ → Ending
-plays zero m ev out s = record { answer = record { shown = s; refused = Some Busy }; memory = m; out = out }
+plays zero m ev out s = record { answer = record { shown = s; outcome = Err Busy }; memory = m; out = out }
 plays (suc n) m ev out s =
     by_act (λ m₁ out₁ s₁. plays n m₁ Next out₁ s₁) (stepped m ev out).memory (stepped m ev out).out s (stepped m ev out).act
+
+abbrev pub shown_then : ℕ → Result Act Reason → Option ℕ
+shown_then s (Ok (Tells p n)) = Some s
+shown_then s (Ok (Shows n)) = Some n
+shown_then s (Ok Done) = None
+shown_then s (Err e) = None
+
+abbrev pub ended_by : ℕ → Result Act Reason → Played
+ended_by s (Ok (Tells p n)) = record { shown = s; outcome = Err Busy }
+ended_by s (Ok (Shows n)) = record { shown = n; outcome = Err Busy }
+ended_by s (Ok Done) = record { shown = s; outcome = Ok tt }
+ended_by s (Err e) = record { shown = s; outcome = Err e }
 
 abbrev pub played_on : ℕ → List ℕ → Result Act Reason → List ℕ → ℕ → Ending
 played_on n m a out s = by_act (λ m₁ out₁ s₁. plays n m₁ Next out₁ s₁) m out s a

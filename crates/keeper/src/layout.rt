@@ -5,8 +5,8 @@ pub const MEMORY: usize = 524288;
 
 pub const OUTPUT: usize = 8192;
 
-// The memory, and the front of the output, whose lengths are then known. They are lent side by side: a struct that holds both by reference hides the
-// lengths, and can't lend both to one call.
+// The memory, and the front of the output, whose lengths are then known. They are lent side by side: a struct of both references was tried, but the check has
+// no rule yet for a call that is lent the one to be read and the other to be written, as `tell` is.
 pub type Memory = [u64; MEMORY];
 
 pub type Output = [u64; OUTPUT];

@@ -1,4 +1,4 @@
-// One step of the keeper.
+// One step of the keeper. As in `linking`, each check hands on its value or leaves with the refusal, by `let .. else`.
 ghost use Rattle.std.specs.Prelude.{◌≡◌, Ok};
 ghost use Rattle.row.specs.Moves.{came};
 ghost use Rattle.keeper.specs.Answers.{Gives, Ends};

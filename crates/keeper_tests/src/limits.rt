@@ -1,12 +1,10 @@
 // As many cards and links as there may be.
 use crate::cases::{done, link, refused, round, unlink};
 use crate::player::Player;
+use keeper::LINKS;
 use row::{Command, Link, Refusal};
 use std::process::Abort;
 use std::test::Fail;
-
-// How many links there may be.
-const LINKS: u64 = 65536;
 
 // The `n`-th of so many links, each from a smaller card to a greater one, among the first 8,191 cards. Eight lead from each card to the next ones; for
 // those that would lead too far there are others, from the first cards on.

@@ -1,5 +1,5 @@
 -- A table with no entries, and a table emptied.
-use Rattle.std.proofs.Common.{◌≡◌, ℕ, zero, suc, ◌+◌, ◌<◌, ◌≤◌, true, cond, ◌&&◌, ltb, leb, List, [], length, get_or, replicate, sym, refl, ap, ◌∙◌, inl, inr, arith}
+use Rattle.std.proofs.Common.{◌≡◌, ℕ, zero, suc, ◌+◌, ◌<◌, ◌≤◌, true, cond, ◌&&◌, ltb, leb, List, [], length, replicate, sym, refl, ap, ◌∙◌, inl, inr, arith}
 use lib.ListN.{length-replicate}
 use Rattle.std.proofs.lemmas.Bool.Decides.{nat_tests}
 use Rattle.std.proofs.lemmas.Bool.{cases_eq}
@@ -8,6 +8,7 @@ use Rattle.row.specs.Board.{◌⟶◌}
 use Rattle.row.specs.Columns.{wiped, cell, written, apart}
 use Rattle.row.specs.Layout.{tally}
 use Rattle.row.proofs.Cells.{length_written, cell_same, cell_other, cell_apart}
+use Rattle.row.proofs.Beginning.{cell_zeros}
 use Rattle.links.specs.declared.chain.Chain.{Chain}
 use Rattle.links.specs.declared.chain.Chain.TheVariants.{Out, In, Pair}
 use Rattle.links.specs.Layout.{live, end, pointers, heads}
@@ -129,15 +130,6 @@ module _ (m : List ℕ) where
     tabled_emptied = tabled_none (emptied m) (omega (arith, length_emptied)) live_emptied end_emptied heads_emptied
 
 -- zeros
-getD_zeros : (n i : ℕ) → get_or {A = ℕ} (replicate n 0) i 0 ≡ 0
-getD_zeros zero i = refl
-getD_zeros (suc n) zero = refl
-getD_zeros (suc n) (suc i) = getD_zeros n i
-
-pub cell_zeros : (n : ℕ) (c : Column) (i : ℕ) → cell (replicate n 0) c i ≡ 0
-unfolding cell
-cell_zeros n c i = let z = getD_zeros n (c.base + i) in grind (arith, nat_tests)
-
 pub tabled_zeros : (n : ℕ) → 412288 ≤ n → Tabled (replicate n 0) × (edges (replicate n 0) ≡ [])
 tabled_zeros n g =
     tabled_none (replicate n 0) (omega (arith, length-replicate {A = ℕ} n 0)) (cell_zeros n tally 2) (cell_zeros n tally 3) (λ c k b. cell_zeros n (pointers c) k)

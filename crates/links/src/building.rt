@@ -2,7 +2,7 @@
 ghost use Rattle.std.specs.Prelude.{◌≡◌};
 ghost use Rattle.links.specs.Building.{appended, emptied, carried, rebuilt, roomy, inserted};
 
-use crate::entries::{from_of, len, to_of};
+use crate::entries::{from_of, len, to_of, used};
 use crate::finding::bucket_of;
 use crate::layout::{END, ENTRIES, FROM, IN, LIVE, OUT, PAIR, SLOTS, TO};
 use row::{Link, TALLY};
@@ -12,7 +12,7 @@ use row::{Link, TALLY};
 fn append(memory: &mut [u64], link: Link)
     ensures { memory.new ≡ appended memory.old link }
 {
-    let entry = TALLY.get(memory, END);
+    let entry = used(memory);
     if entry >= ENTRIES {
         return;
     }
@@ -55,7 +55,7 @@ fn carry(memory: &mut [u64], entry: u64)
 pub fn rebuild(memory: &mut [u64])
     ensures { memory.new ≡ rebuilt memory.old }
 {
-    let end = TALLY.get(memory, END).min(ENTRIES);
+    let end = used(memory).min(ENTRIES);
     empty(memory);
     for entry in 0..end {
         carry(memory, entry);
@@ -67,7 +67,7 @@ pub fn rebuild(memory: &mut [u64])
 fn make_room(memory: &mut [u64])
     ensures { memory.new ≡ roomy memory.old }
 {
-    if TALLY.get(memory, END) >= ENTRIES {
+    if used(memory) >= ENTRIES {
         rebuild(memory);
     }
 }

@@ -1,4 +1,5 @@
-// The chains through the table, and how they are gone through. A new entry is put in front, so that entries fall along a chain.
+// The chains through the table, and how they are gone through. A new entry is put in front, so that entries fall along a chain. Whoever goes through one takes
+// its steps one by one, since a step writes to the memory: it takes dead entries out.
 ghost use Rattle.std.specs.Prelude.{◌≡◌};
 ghost use Rattle.links.specs.Layout.{pointers, heads};
 ghost use Rattle.links.specs.Chains.{met, stepped};

@@ -1,10 +1,10 @@
 // Entries of the table: what they hold, and how they die.
 ghost use Rattle.std.specs.Prelude.{◌≡◌};
 ghost use Rattle.row.specs.Columns.{cell};
-ghost use Rattle.links.specs.Layout.{froms, tos, live};
+ghost use Rattle.links.specs.Layout.{froms, tos, live, end};
 ghost use Rattle.links.specs.Entries.{buried};
 
-use crate::layout::{FROM, LIVE, SLOTS, TO};
+use crate::layout::{END, FROM, LIVE, SLOTS, TO};
 use row::TALLY;
 
 // How many links there are.
@@ -12,6 +12,13 @@ pub fn len(memory: &[u64]) -> u64
     ensures { result ≡ live memory.now }
 {
     TALLY.get(memory, LIVE)
+}
+
+// How many entries are in use, dead ones too: any number, in a garbage memory.
+pub fn used(memory: &[u64]) -> u64
+    ensures { result ≡ end memory.now }
+{
+    TALLY.get(memory, END)
 }
 
 // The slot that an entry's link comes out of.

@@ -1,4 +1,5 @@
-// Where the columns of this crate lie in the lent memory, behind those of `row`. They begin at different offsets within a page.
+// Where the columns of this crate lie in the lent memory, behind those of `row`. They begin at different offsets within a page. There is no heap, and what is
+// lent may hold anything: so an entry is known by its number, and what it holds stands in columns.
 use row::{CARDS, Column, Family};
 
 // How many entries the table has: more than there may be living links, so that building it again makes room for some.

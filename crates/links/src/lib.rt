@@ -12,9 +12,9 @@ mod theory;
 
 pub use building::{insert, rebuild};
 pub use chain::{Chain, Meeting, step};
-pub use entries::{from_of, len, to_of};
+pub use entries::{from_of, len, to_of, used};
 pub use finding::find;
-pub use layout::{END, ENTRIES};
+pub use layout::ENTRIES;
 pub use removing::{remove, remove_all};
 pub use theory::{
     begins_stands, counts_stands, depends_stands, finds_stands, gives_stands, inserts_stands,

@@ -4,10 +4,10 @@ ghost use Rattle.links.specs.Removing.{settled, removed, struck, cleared, remove
 
 use crate::building::rebuild;
 use crate::chain::Chain;
-use crate::entries::{bury, len};
+use crate::entries::{bury, len, used};
 use crate::finding::find;
-use crate::layout::{END, ENTRIES, SLACK};
-use row::{Link, Refusal, TALLY};
+use crate::layout::{ENTRIES, SLACK};
+use row::{Link, Refusal};
 
 // Builds the table again, if too many of it are dead.
 #[tactic(auto, unfolding(crate::specs::Removing::settled))]
@@ -15,7 +15,7 @@ fn settle(memory: &mut [u64])
     ensures { memory.new ≡ settled memory.old }
 {
     let live = len(memory);
-    let dead = TALLY.get(memory, END).saturating_sub(live);
+    let dead = used(memory).saturating_sub(live);
     if dead.saturating_sub(SLACK) > live {
         rebuild(memory);
     }

@@ -1,5 +1,6 @@
 // Runs a program to its end.
-ghost use Rattle.std.specs.Prelude.{◌⊎◌, drop, List, ℕ, OnOk};
+ghost use Rattle.std.specs.Prelude.{◌≡◌, ◌⊎◌, drop, List, ℕ, Ok, OnOk};
+ghost use Rattle.std.specs.Process.{exit_status};
 ghost use Rattle.std.specs.Vec.Iter.{into_iter_items};
 ghost use Rattle.program.specs.Words.{Asks};
 ghost use Rattle.program.specs.declared.words.Wish.TheVariants.{Help};
@@ -9,7 +10,7 @@ use anyhow::{Context, anyhow};
 use std::env::Args;
 use std::io::Read;
 use std::process::ExitCode;
-use std::{env, fs};
+use std::{fs, io};
 
 // What a program is called, and what it says when it is asked for help.
 #[derive(Clone, Copy)]
@@ -23,14 +24,14 @@ impl<'a> Program<'a> {
     fn obey<F: FnOnce(&HostRuntime, &[u8]) -> anyhow::Result<()>>(
         &self,
         rt: &HostRuntime,
-        words: Args,
+        words: io::Result<Args>,
         work: F,
     ) -> anyhow::Result<()>
         requires { F.IsAlwaysCallable work }
-        ensures { OnOk result ((Asks (drop 1 (into_iter_items words)) (Ok Help)) ⊎ ((bytes : _) × F.post work rt.entry bytes (Ok tt))) }
+        ensures { OnOk result ((ws : _) × (words ≡ Ok ws) × ((Asks (drop 1 (into_iter_items ws)) (Ok Help)) ⊎ ((bytes : _) × F.post work rt.entry bytes (Ok tt)))) }
     {
         let name = self.name;
-        let wish = wish_of(words).map_err(|e| anyhow!("{e}; see {name} --help"))?;
+        let wish = wish_of(words?).map_err(|e| anyhow!("{e}; see {name} --help"))?;
         let bytes = match wish {
             Wish::Help => return Ok(rt.print(self.help)?),
             Wish::File(path) => fs::read(rt, path.as_str()).context(path)?,
@@ -43,18 +44,17 @@ impl<'a> Program<'a> {
         work(rt, bytes.as_slice())
     }
 
-    // Does the work, or says on standard error why it can't be done.
+    // Does the work that the words ask for, or says on standard error why it can't be done.
     pub fn run<F: FnOnce(&HostRuntime, &[u8]) -> anyhow::Result<()>>(
         &self,
         rt: &HostRuntime,
+        words: io::Result<Args>,
         work: F,
     ) -> ExitCode
         requires { F.IsAlwaysCallable work }
+        ensures { exit_status result ≡ 0 → (ws : _) × (words ≡ Ok ws) × ((Asks (drop 1 (into_iter_items ws)) (Ok Help)) ⊎ ((bytes : _) × F.post work rt.entry bytes (Ok tt))) }
     {
-        let obeyed = env::args(rt)
-            .map_err(anyhow::Error::from)
-            .and_then(|words| self.obey(rt, words, work));
-        let Err(e) = obeyed else {
+        let Err(e) = self.obey(rt, words, work) else {
             return ExitCode::SUCCESS;
         };
         let name = self.name;

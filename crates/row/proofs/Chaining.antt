@@ -72,11 +72,12 @@ without_tail : (x s : ℕ) (xs : List ℕ) → (x ≡ s → ⊥) → without s (
 unfolding filter
 without_tail x s xs e = rw (ne_eqb x s e)
 
-not_again : (x : ℕ) (xs : List ℕ) → distinct (x ∷ xs) ≡ true → has xs x ≡ false
+-- of a list of different numbers: the first isn't there again, and the others are different
+pub not_again : (x : ℕ) (xs : List ℕ) → distinct (x ∷ xs) ≡ true → has xs x ≡ false
 unfolding distinct
 not_again x xs d = let p = (and_parts (not (has xs x)) (distinct xs) d).0 in grind arith
 
-distinct_tail : (x : ℕ) (xs : List ℕ) → distinct (x ∷ xs) ≡ true → distinct xs ≡ true
+pub distinct_tail : (x : ℕ) (xs : List ℕ) → distinct (x ∷ xs) ≡ true → distinct xs ≡ true
 unfolding distinct
 distinct_tail x xs d = (and_parts (not (has xs x)) (distinct xs) d).1
 

@@ -50,7 +50,7 @@ both_tests B A n (x ∷ xs) d h =
     ]
 
 -- two that pass a test whose cards stay in their order: the first is no later, if it was no later
-upto_by_test : (f : ℕ → Bool) (xs ys : List ℕ) (x y : ℕ) → filter f ys ≡ filter f xs → f x ≡ true → f y ≡ true → has xs x ≡ true →
+pub upto_by_test : (f : ℕ → Bool) (xs ys : List ℕ) (x y : ℕ) → filter f ys ≡ filter f xs → f x ≡ true → f y ≡ true → has xs x ≡ true →
     place xs x ≤ place xs y → place ys x ≤ place ys y
 upto_by_test f xs ys x y e p q h l = elim (cases_Bool (eqb (place xs x) (place xs y))) [
   | inl s ↦ omega (arith, ap (place ys) (place_same xs x y h (eqb-true _ _ s)))

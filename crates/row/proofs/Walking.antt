@@ -30,7 +30,7 @@ module _ (c : Column) (h n : ℕ) (m : List ℕ) (p : ℕ) where
 pub ruleset walks = (walked_over, walked_stop, walked_on)
 
 -- what is so of nothing, and of what f makes of each thing that may be in an Option, is so of what is given
-given_holds : {X Y : Type 0} (A : Option X → Type 0) (B : Y → Type 0) (o : Option X) (z : Y) (f : X → Y) → A o → B z → ((x : X) → A (Some x) → B (f x)) →
+pub given_holds : {X Y : Type 0} (A : Option X → Type 0) (B : Y → Type 0) (o : Option X) (z : Y) (f : X → Y) → A o → B z → ((x : X) → A (Some x) → B (f x)) →
     B (given o z f)
 given_holds A B None z f a b k = b
 given_holds A B (Some x) z f a b k = k x a

@@ -7,6 +7,7 @@
 --   slot_for m p     the slot of a card that comes to the place p
 --   taken m p        the memory after that slot was taken
 --   came m k         a card came
+--   seated_in m p s  the place p given to the slot s, in both columns
 --   shifted f m p    f cards behind the place p moved one place to the left
 --   last m           the place of the last card
 --   closed m s       the slot s taken out of the row
@@ -45,16 +46,19 @@ came m k =
     given (found m k) (given (room m) (refused m Full) (λ p. record { answer = Ok (slot_for m p); memory = arrived m p k }))
     (λ _. refused m Exists)
 
+abbrev pub seated_in : List ℕ → ℕ → ℕ → List ℕ
+seated_in m p s = written (written m slots p s) places s p
+
 unfoldable pub shifted : ℕ → List ℕ → ℕ → List ℕ
 shifted zero m p = m
-shifted (suc f) m p = shifted f (written (written m slots p (cell m slots (p + 1))) places (cell m slots (p + 1)) p) (p + 1)
+shifted (suc f) m p = shifted f (seated_in m p (cell m slots (p + 1))) (p + 1)
 
 unfoldable pub last : List ℕ → ℕ
 last m = min (count m) 8192 - 1
 
 unfoldable pub closed : List ℕ → ℕ → List ℕ
 closed m s =
-    written (written (written (shifted (last m - cell m places s) m (cell m places s)) slots (last m) s) places s (last m)) tally 0 (last m)
+    written (seated_in (shifted (last m - cell m places s) m (cell m places s)) (last m) s) tally 0 (last m)
 
 unfoldable pub gone : List ℕ → ℕ → Outcome
 gone m k =

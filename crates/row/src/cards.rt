@@ -6,7 +6,7 @@ ghost use Rattle.std.specs.Prelude.{◌≡◌, ◌-◌, ◌<◌};
 ghost use Rattle.row.specs.Columns.{cell};
 ghost use Rattle.row.specs.Layout.{count, places};
 ghost use Rattle.row.specs.Lookup.{Below};
-ghost use Rattle.row.specs.Moves.{room, slot_for, taken, came, gone, shifted, last, closed, place_found};
+ghost use Rattle.row.specs.Moves.{room, slot_for, taken, came, gone, seated_in, shifted, last, closed, place_found};
 
 use crate::board::Refusal;
 use crate::layout::{CARDS, COUNT, FRESH, PLACES, SLOTS, TALLY};
@@ -79,6 +79,14 @@ pub fn comes(memory: &mut [u64], card: u64) -> Result<u64, Refusal>
     Ok(slot)
 }
 
+// Gives a place to a slot: each of the two columns has it.
+pub fn seat(memory: &mut [u64], place: u64, slot: u64)
+    ensures { memory.new ≡ seated_in memory.old place slot }
+{
+    SLOTS.set(memory, place, slot);
+    PLACES.set(memory, slot, place);
+}
+
 // Moves each card behind `from`, up to `to`, one place to the left.
 #[tactic(auto, using(crate::proofs::Closing::steps))]
 fn shift(memory: &mut [u64], from: u64, to: u64)
@@ -86,8 +94,7 @@ fn shift(memory: &mut [u64], from: u64, to: u64)
 {
     for place in from..to {
         let slot = SLOTS.get(memory, place + 1);
-        SLOTS.set(memory, place, slot);
-        PLACES.set(memory, slot, place);
+        seat(memory, place, slot);
     }
 }
 
@@ -107,8 +114,7 @@ fn close(memory: &mut [u64], slot: u64)
     let to = last_place(memory);
     let from = place_at(memory, slot);
     shift(memory, from, to);
-    SLOTS.set(memory, to, slot);
-    PLACES.set(memory, slot, to);
+    seat(memory, to, slot);
     TALLY.set(memory, COUNT, to);
 }
 

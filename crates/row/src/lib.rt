@@ -14,7 +14,7 @@ mod theory;
 mod walk;
 
 pub use board::{Command, Link, Refusal};
-pub use cards::{comes, goes, len, place_at, place_of};
+pub use cards::{comes, goes, len, place_at, place_of, seat};
 pub use chains::{Entry, Family, spread};
 pub use column::Column;
 pub use keeping::{Misfit, kept};

@@ -14,8 +14,9 @@
 use Rattle.std.specs.Prelude.{ℕ, zero, suc, ◌+◌, min, List, Some, None, Option}
 use Rattle.row.specs.declared.column.Column.{Column}
 use Rattle.row.specs.Columns.{cell, written}
-use Rattle.row.specs.Layout.{slots, places}
+use Rattle.row.specs.Layout.{slots}
 use Rattle.row.specs.Lookup.{given}
+use Rattle.row.specs.Moves.{seated_in}
 use Rattle.search.specs.Layout.{fore, hind, chosen}
 use Rattle.search.specs.Marks.{next_up, first_mark, wiped}
 
@@ -44,7 +45,7 @@ unfoldable pub both_next : List ℕ → ℕ → Option ℕ
 both_next m p = sooner (next_up m hind p) (next_up m fore p)
 
 unfoldable pub seated : List ℕ → ℕ → ℕ → List ℕ
-seated m p i = written (written m slots p (cell m chosen i)) places (cell m chosen i) p
+seated m p i = seated_in m p (cell m chosen i)
 
 unfoldable pub dealt : ℕ → List ℕ → Option ℕ → ℕ → List ℕ
 dealt zero m o i = m

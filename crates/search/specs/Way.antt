@@ -4,7 +4,8 @@
 --   way next n l j      the slots from l's second card to its first, by the link j: a trail turned round, and a trail; at most n of them
 --   over m ks n out     `out` with the numbers of the cards of the slots ks, n of them, at its front
 --   shown m l j out     the numbers of the cards of the way, at most 8,192; none if `out` hasn't room for so many
-use Rattle.std.specs.Prelude.{ℕ, zero, suc, ◌-◌, cond, List, [], ◌∷◌, ◌++◌, map, reverse, length, drop, ◌==◌, nat_le}
+--   ShownSo ks out      what is shown is the cards ks: how many they are, and the output, whose front they were written to
+use Rattle.std.specs.Prelude.{◌≡◌, ℕ, zero, suc, ◌-◌, cond, List, [], ◌∷◌, ◌++◌, map, reverse, length, drop, ◌==◌, nat_le}
 use Rattle.row.specs.declared.board.Link.{Link}
 use Rattle.row.specs.Columns.{cell}
 use Rattle.row.specs.Layout.{ids}
@@ -23,3 +24,7 @@ over m ks n out = map (cell m ids) ks ++ drop n out
 
 unfoldable pub shown : List ℕ → Link → Link → List ℕ → List ℕ
 shown m l j out = cond (nat_le 8192 (length out)) (map (cell m ids) (way (cell m via) 8192 l j)) []
+
+pub record ShownSo (ks out₀ : List ℕ) (n : ℕ) (out₁ : List ℕ) : Type 0 where
+  pub count : n ≡ length ks
+  pub out : out₁ ≡ ks ++ drop n out₀

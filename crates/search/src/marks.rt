@@ -32,7 +32,7 @@ impl Level {
     }
 }
 
-#[derive(Clone, Copy)]
+#[derive(Clone, Copy, Debug, PartialEq, Eq)]
 pub struct Marks {
     pub column: Column,
 }
@@ -231,13 +231,14 @@ impl Marks {
         self.down_from(memory, place.min(CARDS) - 1)
     }
 
-    // Empties the words of places that the summary names.
+    // Empties the words of places that the summary names, in as many turns as there are words, whatever the memory holds. Each turn writes to the memory, which
+    // an iterator over the words would hold lent.
     #[tactic(auto, using(crate::proofs::Clearing::steps))]
     fn clear(self, memory: &mut [u64])
         ensures { memory.new ≡ cleared 128 memory.old self.column 0 }
     {
         let mut word = 0;
-        for _i in 0..WORDS {
+        for _turn in 0..WORDS {
             let Some(named) = self.word_up(memory, word) else {
                 return;
             };

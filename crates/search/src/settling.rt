@@ -6,7 +6,7 @@ ghost use Rattle.search.specs.Settle.{sooner, gathers, both_first, both_next, se
 
 use crate::layout::{CHOSEN, FORE, HIND};
 use crate::marks::Marks;
-use row::{CARDS, PLACES, SLOTS};
+use row::{CARDS, SLOTS};
 
 // The smaller of two places, or the one that is there.
 fn sooner(one: Option<u64>, other: Option<u64>) -> Option<u64>
@@ -18,7 +18,8 @@ fn sooner(one: Option<u64>, other: Option<u64>) -> Option<u64>
     }
 }
 
-// Writes the slots at the marked places, upward, to CHOSEN from the index `from` on; says the next free index.
+// Writes the slots at the marked places, upward, to CHOSEN from the index `from` on; says the next free index. Each turn writes to the memory, which an
+// iterator over the marks would hold lent; there are no more turns than places, whatever stands there.
 #[tactic(auto, using(crate::proofs::SettleSteps::steps), unfolding(crate::specs::Settle::gathers))]
 fn gather(memory: &mut [u64], marks: Marks, from: u64) -> u64
     requires { from ≤ 8192 }
@@ -69,11 +70,10 @@ fn seat(memory: &mut [u64], place: u64, i: u64)
     ensures { memory.new ≡ seated memory.old place i }
 {
     let slot = CHOSEN.get(memory, i);
-    SLOTS.set(memory, place, slot);
-    PLACES.set(memory, slot, place);
+    row::seat(memory, place, slot);
 }
 
-// Gives the places of both sets, upward, to the slots of CHOSEN.
+// Gives the places of both sets, upward, to the slots of CHOSEN; in turns as those of `gather`, since each of these writes to the memory too.
 #[tactic(auto, using(crate::proofs::SettleSteps::steps))]
 fn deal(memory: &mut [u64])
     ensures { memory.new ≡ dealt 8192 memory.old (both_first memory.old) 0 }

@@ -9,6 +9,7 @@ use anyhow::{Context, ensure};
 use input::{Question, decode, split};
 use program::Program;
 use row::{Misfit, kept};
+use std::env;
 use std::process::ExitCode;
 
 const VERIFY: Program = Program {
@@ -68,7 +69,7 @@ fn answer(rt: &HostRuntime, bytes: &[u8]) -> anyhow::Result<()> {
 }
 
 fn main(rt: HostRuntime) -> ExitCode {
-    VERIFY.run(&rt, answer)
+    VERIFY.run(&rt, env::args(&rt), answer)
 }
 
 #[cfg(test)]

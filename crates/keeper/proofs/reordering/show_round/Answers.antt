@@ -7,8 +7,8 @@ pub returns : goal.returns
 unfolding round_cards shown_round
 returns c =
     let e = shown_is c.args.memory.now c.args.slots c.args.joint c.args.out.now (omega (arith, c.told-out)) in
-    let i = c.show_and_forget-n.ensures.is in
-    let o = c.show_and_forget-n.ensures.out in
+    let i = c.show_and_forget-n.ensures.way.count in
+    let o = c.show_and_forget-n.ensures.way.out in
     let a = c.show_and_forget-n.ensures.after in
     let n = c.note.ensures in
     record { act = cc; after = cc; out = cc }

@@ -10,7 +10,7 @@ use Rattle.search.proofs.way.show.Goals as goal
 
 pub returns-then-out-room : goal.returns-then-out-room
 unfolding shown
-returns-then-out-room c = record { is = grind (arith, nat_tests); out = grind (arith, nat_tests) }
+returns-then-out-room c = record { count = grind (arith, nat_tests); out = grind (arith, nat_tests) }
 
 pub returns : goal.returns
 returns c =
@@ -21,6 +21,6 @@ returns c =
     c.trace.ensures.out in
     let s = sym (shown_is m c.args.link c.args.joint out c.if-out-room.false) in
     record {
-      is = f.0 ∙ sym (length-map (ws 8192) (cell m ids)) ∙ ap length s;
+      count = f.0 ∙ sym (length-map (ws 8192) (cell m ids)) ∙ ap length s;
       out = f.1 ∙ ap (λ (xs : List ℕ). xs ++ drop c.trace.result out) s;
     }
