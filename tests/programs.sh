@@ -56,6 +56,28 @@ run board "$two"'\x02\x01\x00\x02'
 expect 'board: an end inside a saying' 1 $'1\n1 2\n' 'saying 3: the input ends inside it'
 run board "$two"'\x00'
 expect 'board: an end after the first byte' 1 $'1\n1 2\n' 'saying 3: the input ends inside it'
+three="$two"'\x00\x03\x00'
+run board "$three"'\x05\x02\x03\x00\x01\x00\x02\x00\x03\x00'
+expect 'board: several links' 0 $'1\n1 2\n1 2 3\n2 3 1\n' none
+run board "$two"'\x05\x02\x01\x00\x02\x00\x02\x00\x01\x00'
+expect 'board: several links that go round' 0 $'1\n1 2\nrefused 5: 1 2\n' none
+run board "$two"'\x05\x02\x01\x00\x02\x00\x01\x00\x02\x00'
+expect 'board: a link twice in several' 0 $'1\n1 2\nrefused 4\n' none
+run board "$two"'\x05\x02\x01\x00\x02\x00\x02'
+expect 'board: an end inside several links' 1 $'1\n1 2\n' 'saying 3: the input ends inside it'
+run board "$two"'\x05\x02\x01\x00\x02\x00'
+expect 'board: an end between two links' 1 $'1\n1 2\n' 'saying 3: the input ends inside it'
+run board "$two"'\x05'
+expect 'board: an end before the number of links' 1 $'1\n1 2\n' 'saying 3: the input ends inside it'
+many=$(printf '\\x03\\x00\\x02\\x00%.0s' {1..255})
+run board "$two"'\x05\x00'"$many"
+expect 'board: 0 says 256 links, and one is missing' 1 $'1\n1 2\n' 'saying 3: the input ends inside it'
+run board "$two"'\x05\x00'"$many"'\x01\x00\x02\x00\x00\x03\x00'
+expect 'board: 0 says 256 links' 0 $'1\n1 2\nrefused 3\n1 2 3\n' none
+run board "$two"'\x02\x02\x00\x01\x00\x03\x02\x00\x01\x00\x06'
+expect 'board: a row made anew' 0 $'1\n1 2\n2 1\n2 1\n1 2\n' none
+run board '\x06'
+expect 'board: an empty row made anew' 0 $'\n' none
 run board '' no-such-file
 expect 'board: no file' 1 '' 'no-such-file: No such file or directory (os error 2)'
 run board '' one two
