@@ -1,6 +1,6 @@
 // Links that are said at once, beside the same links said one after the other to another player.
 use crate::board::Board;
-use crate::cases::{check_done, check_refused, check_round, link};
+use crate::cases::{Said, link};
 use crate::player::Player;
 use batch::Event;
 use keeper::Act;
@@ -102,18 +102,16 @@ fn check_both(
     batch: &[Link],
 ) -> Result<(), Fail> {
     other.copy_from(rt, player);
-    let before = player.board(rt)?;
-    let answers = player.say(rt, Event::Several, batch)?;
-    let answers = answers.as_slice();
-    if let Some(refusal) = refusal(&before, batch) {
-        return check_refused(rt, player, &before, batch, answers, refusal);
+    let said = Said::at_once(rt, player, batch)?;
+    if let Some(refusal) = refusal(said.before(), batch) {
+        return said.check_refused(rt, player, refusal);
     }
     if !say_singly(rt, other, batch)? {
-        check_round(rt, player, &before, batch, answers)?;
+        said.check_round(rt, player)?;
         return Ok(());
     }
     let row = other.board(rt)?.row;
-    check_done(rt, player, &before, batch, answers, row.as_slice())
+    said.check_done(rt, player, row.as_slice())
 }
 
 #[test]

@@ -3,7 +3,7 @@ use crate::cases::link;
 use crate::player::Player;
 use batch::Event;
 use keeper::{Act, Reason};
-use row::{Command, Link};
+use row::Link;
 use std::process::Abort;
 use std::test::Fail;
 
@@ -22,25 +22,9 @@ fn check_anew(
     Ok(())
 }
 
-// A player to whom these cards have come, and these links been said.
-fn with_board(
-    rt: &(impl Abort + AllocGlobal),
-    cards: &[u64],
-    links: &[Link],
-) -> Result<Player, Fail> {
-    let mut player = Player::with_cards(rt, 0)?;
-    for card in cards {
-        player.command(rt, Command::Comes(*card));
-    }
-    for link in links {
-        player.command(rt, Command::Link(*link));
-    }
-    Ok(player)
-}
-
 #[test]
 fn small_rows(rt: HostRuntime) -> Result<(), Fail> {
-    let cases: [(&[u64], &[Link], &[u64]); 5] = [
+    let cases: [(&[u64], &[Link], &[u64]); 6] = [
         (&[7], &[], &[7]),
         (&[3, 1, 2], &[], &[1, 2, 3]),
         // First 30, which waits for none; then 40, since 10 waits for it and 20 for 50; and then 10 before 50.
@@ -48,6 +32,12 @@ fn small_rows(rt: HostRuntime) -> Result<(), Fail> {
             &[50, 10, 40, 20, 30],
             &[link(40, 10), link(50, 20)],
             &[30, 40, 10, 50, 20],
+        ),
+        // After 2 comes 4, and then 1; 7 comes before 3.
+        (
+            &[2, 7, 4, 3, 6, 1, 5],
+            &[link(3, 6), link(4, 1), link(6, 5), link(7, 3), link(2, 4)],
+            &[2, 4, 1, 7, 3, 6, 5],
         ),
         // All wait for the last but that one.
         (
@@ -63,7 +53,7 @@ fn small_rows(rt: HostRuntime) -> Result<(), Fail> {
         ),
     ];
     for (cards, links, row) in cases {
-        let mut player = with_board(&rt, cards, links)?;
+        let mut player = Player::with_board(&rt, cards, links)?;
         let told = [Ok(Act::Tells(0, row.len() as u64)), Ok(Act::Done)];
         check_anew(&rt, &mut player, row, &told)?;
         check_anew(&rt, &mut player, row, &told)?;
@@ -75,7 +65,7 @@ fn small_rows(rt: HostRuntime) -> Result<(), Fail> {
 #[test]
 fn longest_row(rt: HostRuntime) -> Result<(), Fail> {
     let cards: Vec<u64> = (0..8192).rev().collect(rt.alloc())?;
-    let mut player = with_board(&rt, cards.as_slice(), &[link(8191, 0)])?;
+    let mut player = Player::with_board(&rt, cards.as_slice(), &[link(8191, 0)])?;
     let row: Vec<u64> = (1..8192).chain([0]).collect(rt.alloc())?;
     let told = [
         Ok(Act::Tells(0, 4096)),

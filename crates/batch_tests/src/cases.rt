@@ -60,54 +60,80 @@ fn is_told_between(before: &Board, batch: &[Link], answers: &[Result<Act, Reason
     is_told_within(answers, first as u64, (last as u64).saturating_add(1))
 }
 
-// Sees that links go round, that a circle is shown, and that nothing is changed; the circle.
-pub(crate) fn check_round<'a>(
-    rt: &(impl Abort + AllocGlobal),
-    player: &'a Player,
-    before: &Board,
-    batch: &[Link],
-    answers: &[Result<Act, Reason>],
-) -> Result<&'a [u64], Fail> {
-    let n = match answers.first() {
-        Some(Ok(Act::Shows(n))) => *n,
-        _ => 0,
-    };
-    assert!(rt; answers == [Ok(Act::Shows(n)), Err(Reason::Board(Refusal::Cycle))].as_slice());
-    player.check_unchanged(rt, before, batch)?;
-    let circle = player.shown(n);
-    assert!(rt; before.is_circle(batch, circle));
-    Ok(circle)
+// Links that were said at once, the board before, and the answers.
+#[derive(Drop)]
+pub(crate) struct Said<'a> {
+    batch: &'a [Link],
+    before: Board,
+    answers: Vec<Result<Act, Reason>>,
 }
 
-// Sees that links are refused for this reason, and that nothing is changed.
-pub(crate) fn check_refused(
-    rt: &(impl Abort + AllocGlobal),
-    player: &Player,
-    before: &Board,
-    batch: &[Link],
-    answers: &[Result<Act, Reason>],
-    refusal: Refusal,
-) -> Result<(), Fail> {
-    assert!(rt; answers == [Err(Reason::Board(refusal))].as_slice());
-    player.check_unchanged(rt, before, batch)
-}
+impl<'a> Said<'a> {
+    pub(crate) fn at_once(
+        rt: &(impl Abort + AllocGlobal),
+        player: &mut Player,
+        batch: &'a [Link],
+    ) -> Result<Said<'a>, Fail> {
+        Ok(Said {
+            batch,
+            before: player.board(rt)?,
+            answers: player.say(rt, Event::Several, batch)?,
+        })
+    }
 
-// Sees that links are done, and the row is this one; that nothing is told if it is as before; and that just the links came to the others.
-pub(crate) fn check_done(
-    rt: &(impl Abort + AllocGlobal),
-    player: &Player,
-    before: &Board,
-    batch: &[Link],
-    answers: &[Result<Act, Reason>],
-    row: &[u64],
-) -> Result<(), Fail> {
-    let after = player.board(rt)?;
-    assert_eq!(rt; answers.last(), Some(&Ok(Act::Done)));
-    assert_eq!(rt; answers.len() == 1, before.row.as_slice() == row);
-    assert!(rt; is_told_between(before, batch, answers));
-    assert!(rt; after.row.as_slice() == row);
-    assert!(rt; after.links.iter().eq(before.links.iter().chain(batch)));
-    Ok(())
+    pub(crate) fn before(&self) -> &Board {
+        &self.before
+    }
+
+    // Sees that the links are done, and the row is this one; that nothing is told if it is as before; and that just the links came to the others.
+    pub(crate) fn check_done(
+        &self,
+        rt: &(impl Abort + AllocGlobal),
+        player: &Player,
+        row: &[u64],
+    ) -> Result<(), Fail> {
+        let after = player.board(rt)?;
+        assert_eq!(rt; self.answers.last(), Some(&Ok(Act::Done)));
+        assert_eq!(rt; self.answers.len() == 1, self.before.row.as_slice() == row);
+        assert!(rt; is_told_between(&self.before, self.batch, self.answers.as_slice()));
+        assert!(rt; after.row.as_slice() == row);
+        assert!(rt;
+            after
+                .links
+                .iter()
+                .eq(self.before.links.iter().chain(self.batch))
+        );
+        Ok(())
+    }
+
+    // Sees that the links are refused for this reason, and that nothing is changed.
+    pub(crate) fn check_refused(
+        &self,
+        rt: &(impl Abort + AllocGlobal),
+        player: &Player,
+        refusal: Refusal,
+    ) -> Result<(), Fail> {
+        assert!(rt; self.answers.as_slice() == [Err(Reason::Board(refusal))].as_slice());
+        player.check_unchanged(rt, &self.before, self.batch)
+    }
+
+    // Sees that the links go round, that a circle is shown, and that nothing is changed; the circle.
+    pub(crate) fn check_round<'b>(
+        &self,
+        rt: &(impl Abort + AllocGlobal),
+        player: &'b Player,
+    ) -> Result<&'b [u64], Fail> {
+        let n = match self.answers.first() {
+            Some(Ok(Act::Shows(n))) => *n,
+            _ => 0,
+        };
+        let due = [Ok(Act::Shows(n)), Err(Reason::Board(Refusal::Cycle))];
+        assert!(rt; self.answers.as_slice() == due.as_slice());
+        player.check_unchanged(rt, &self.before, self.batch)?;
+        let circle = player.shown(n);
+        assert!(rt; self.before.is_circle(self.batch, circle));
+        Ok(circle)
+    }
 }
 
 // Says the links, and sees that what comes of them is what is to come.
@@ -117,14 +143,12 @@ pub(crate) fn check(
     batch: &[Link],
     due: Due,
 ) -> Result<(), Fail> {
-    let before = player.board(rt)?;
-    let answers = player.say(rt, Event::Several, batch)?;
-    let answers = answers.as_slice();
+    let said = Said::at_once(rt, player, batch)?;
     match due {
-        Due::Row(row) => check_done(rt, player, &before, batch, answers, row),
-        Due::Refused(refusal) => check_refused(rt, player, &before, batch, answers, refusal),
+        Due::Row(row) => said.check_done(rt, player, row),
+        Due::Refused(refusal) => said.check_refused(rt, player, refusal),
         Due::Round(circle) => {
-            let shown = check_round(rt, player, &before, batch, answers)?;
+            let shown = said.check_round(rt, player)?;
             assert!(rt; is_turned(shown, circle));
             Ok(())
         }

@@ -51,5 +51,6 @@ fn room_for_one(rt: HostRuntime) -> Result<(), Fail> {
     let two = [link(513, 512), link(515, 514)];
     check(&rt, &mut player, &two, FULL)?;
     check(&rt, &mut player, &[link(513, 512)], row)?;
+    check(&rt, &mut player, &[], row)?;
     check(&rt, &mut player, &[link(0, 256)], FULL)
 }

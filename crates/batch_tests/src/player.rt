@@ -16,16 +16,29 @@ pub(crate) struct Player {
 }
 
 impl Player {
-    // A player with the cards 0, 1, 2 and so on in the row, `n` of them.
-    pub(crate) fn with_cards(rt: &(impl Abort + AllocGlobal), n: u64) -> Result<Player, Fail> {
+    // A player to whom these cards have come, and then these links been said.
+    pub(crate) fn with_board(
+        rt: &(impl Abort + AllocGlobal),
+        cards: &[u64],
+        links: &[Link],
+    ) -> Result<Player, Fail> {
         let mut player = Player {
             memory: vec![in rt.alloc(); 0u64; MEMORY]?,
             out: vec![in rt.alloc(); 0u64; OUTPUT]?,
         };
-        for card in 0..n {
-            player.command(rt, Command::Comes(card));
+        for card in cards {
+            player.command(rt, Command::Comes(*card));
+        }
+        for link in links {
+            player.command(rt, Command::Link(*link));
         }
         Ok(player)
+    }
+
+    // A player with the cards 0, 1, 2 and so on in the row, `n` of them.
+    pub(crate) fn with_cards(rt: &(impl Abort + AllocGlobal), n: u64) -> Result<Player, Fail> {
+        let cards: Vec<u64> = (0..n).collect(rt.alloc())?;
+        Player::with_board(rt, cards.as_slice(), &[])
     }
 
     // Says a command that is to be done.

@@ -1,21 +1,13 @@
 // Several links said at once.
 use crate::cases::{Due, EXISTS, FULL, MISSING, check, link};
 use crate::player::Player;
-use row::{Command, Link};
-use std::process::Abort;
+use row::Link;
 use std::test::Fail;
 
-// A player with six cards in their order, with 0 before 1 and 3 before 4.
-fn on_small_board(rt: &(impl Abort + AllocGlobal)) -> Result<Player, Fail> {
-    let mut player = Player::with_cards(rt, 6)?;
-    player.command(rt, Command::Link(link(0, 1)));
-    player.command(rt, Command::Link(link(3, 4)));
-    Ok(player)
-}
-
+// On a board of six cards in their order, with 0 before 1 and 3 before 4.
 #[test]
 fn refused_on_a_small_board(rt: HostRuntime) -> Result<(), Fail> {
-    let mut player = on_small_board(&rt)?;
+    let mut player = Player::with_board(&rt, &[0, 1, 2, 3, 4, 5], &[link(0, 1), link(3, 4)])?;
     let cases: [(&[Link], Due); 17] = [
         (&[link(1, 2), link(2, 1)], Due::Round(&[1, 2])),
         (
@@ -44,9 +36,10 @@ fn refused_on_a_small_board(rt: HostRuntime) -> Result<(), Fail> {
     Ok(())
 }
 
+// On the same board, one after the other.
 #[test]
 fn done_on_a_small_board(rt: HostRuntime) -> Result<(), Fail> {
-    let mut player = on_small_board(&rt)?;
+    let mut player = Player::with_board(&rt, &[0, 1, 2, 3, 4, 5], &[link(0, 1), link(3, 4)])?;
     let cases: [(&[Link], Due); 7] = [
         (&[], Due::Row(&[0, 1, 2, 3, 4, 5])),
         (&[link(0, 5), link(1, 3)], Due::Row(&[0, 1, 2, 3, 4, 5])),
@@ -57,6 +50,27 @@ fn done_on_a_small_board(rt: HostRuntime) -> Result<(), Fail> {
         (&[link(2, 5), link(2, 0)], Due::Row(&[2, 0, 5, 1, 3, 4])),
         (&[link(2, 0)], EXISTS),
         (&[link(4, 1)], Due::Round(&[1, 3, 4])),
+    ];
+    for (batch, due) in cases {
+        check(&rt, &mut player, batch, due)?;
+    }
+    Ok(())
+}
+
+// The board of six cards of a theatre at the end of the example, with two cards more.
+#[test]
+fn done_at_the_theatre(rt: HostRuntime) -> Result<(), Fail> {
+    let links = [link(3, 6), link(4, 1), link(6, 5)];
+    let mut player = Player::with_board(&rt, &[4, 3, 1, 6, 5, 2, 7], &links)?;
+    let cases: [(&[Link], Due); 4] = [
+        // By the first link 4 7 1 3 6 2 5.
+        (&[link(7, 3), link(2, 4)], Due::Row(&[2, 7, 4, 3, 6, 1, 5])),
+        (
+            &[link(5, 2), link(1, 7)],
+            Due::Round(&[7, 3, 6, 5, 2, 4, 1]),
+        ),
+        (&[link(2, 5), link(4, 1)], EXISTS),
+        (&[link(2, 5), link(9, 1)], MISSING),
     ];
     for (batch, due) in cases {
         check(&rt, &mut player, batch, due)?;
