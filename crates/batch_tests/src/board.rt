@@ -1,0 +1,69 @@
+// What a memory has of a board: its row, and its links, the oldest first.
+use keeper::{read_row, slots_of};
+use links::{END, find, from_of, to_of};
+use row::{CARDS, IDS, Link, TALLY};
+use std::process::Abort;
+use std::test::Fail;
+
+#[derive(Drop)]
+pub(crate) struct Board {
+    pub row: Vec<u64>,
+    pub links: Vec<Link>,
+}
+
+// The link of an entry of the table, if it is living.
+fn link_at(memory: &[u64], entry: u64) -> Option<Link> {
+    let from = from_of(memory, entry);
+    let to = to_of(memory, entry);
+    (from < CARDS).then_some(Link {
+        from: IDS.get(memory, from),
+        to: IDS.get(memory, to),
+    })
+}
+
+// Whether a link is found in the table.
+pub(crate) fn has(memory: &[u64], link: Link) -> bool {
+    slots_of(memory, link).is_some_and(|slots| find(memory, slots).is_some())
+}
+
+// Reads the row, and sees that there are as many cards as the memory says.
+pub(crate) fn row_of(rt: &(impl Abort + AllocGlobal), memory: &[u64]) -> Result<Vec<u64>, Fail> {
+    let n = row::len(memory);
+    let mut row = vec![in rt.alloc(); 0u64; n as usize]?;
+    assert_eq!(rt; read_row(memory, row.as_mut_slice()), n);
+    Ok(row)
+}
+
+impl Board {
+    // Reads the board, and sees that there are as many links as the memory says, and that each is found.
+    pub(crate) fn read(rt: &(impl Abort + AllocGlobal), memory: &[u64]) -> Result<Board, Fail> {
+        let row = row_of(rt, memory)?;
+        let links: Vec<Link> = (0..TALLY.get(memory, END))
+            .filter_map(|entry| link_at(memory, entry))
+            .collect(rt.alloc())?;
+        assert_eq!(rt; links.len() as u64, links::len(memory));
+        assert!(rt; links.iter().all(|link| has(memory, *link)));
+        Ok(Board { row, links })
+    }
+
+    // The place of a card in the row, if it is there.
+    pub(crate) fn place_of(&self, card: u64) -> Option<usize> {
+        self.row.iter().position(|other| *other == card)
+    }
+
+    // Whether the cards are a circle: each is linked to the next one, and the last to the first, by a link of the board or of the batch, and none is there twice.
+    pub(crate) fn is_circle(&self, batch: &[Link], cards: &[u64]) -> bool {
+        let next = cards.iter().skip(1).chain(cards.first());
+        let mut pairs = cards.iter().zip(next);
+        let are_linked = pairs.all(|(from, to)| {
+            let link = Link {
+                from: *from,
+                to: *to,
+            };
+            batch.contains(&link) || self.links.contains(&link)
+        });
+        let mut counted = cards.iter().enumerate();
+        let is_once = counted.all(|(i, card)| !cards[..i].contains(card));
+        !cards.is_empty() && are_linked && is_once
+    }
+}
