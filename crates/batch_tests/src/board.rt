@@ -1,7 +1,7 @@
 // What a memory has of a board: its row, and its links, the oldest first.
 use keeper::{read_row, slots_of};
-use links::{END, find, from_of, to_of};
-use row::{CARDS, IDS, Link, TALLY};
+use links::{find, from_of, to_of, used};
+use row::{CARDS, IDS, Link};
 use std::process::Abort;
 use std::test::Fail;
 
@@ -38,7 +38,7 @@ impl Board {
     // Reads the board, and sees that there are as many links as the memory says, and that each is found.
     pub(crate) fn read(rt: &(impl Abort + AllocGlobal), memory: &[u64]) -> Result<Board, Fail> {
         let row = row_of(rt, memory)?;
-        let links: Vec<Link> = (0..TALLY.get(memory, END))
+        let links: Vec<Link> = (0..used(memory))
             .filter_map(|entry| link_at(memory, entry))
             .collect(rt.alloc())?;
         assert_eq!(rt; links.len() as u64, links::len(memory));
