@@ -1,4 +1,4 @@
-// Links are taken out of the table.
+// Links are taken out of the table. A check hands on its value or leaves with the refusal, by `let .. else`.
 ghost use Rattle.std.specs.Prelude.{◌≡◌};
 ghost use Rattle.links.specs.Removing.{settled, removed, struck, cleared, removed_all};
 
