@@ -1,0 +1,107 @@
+// A keeper and a slow board to which the same is said.
+use crate::board::Board;
+use crate::comparing::Due;
+use crate::counts::Counts;
+use crate::drawing::{Mood, draw};
+use crate::numbers::Numbers;
+use crate::player::{Answer, Player};
+use crate::rows::Rows;
+use crate::saying::{Cards, Listed, Saying};
+use std::alloc::{AllocError, Global};
+use std::io;
+
+// Something that came otherwise.
+#[derive(Drop)]
+pub(crate) struct Difference {
+    what: &'static str,
+    due: Due,
+    answer: Answer,
+}
+
+#[derive(Drop)]
+pub(crate) struct Trial {
+    alloc: Global,
+    cards: u64,
+    mood: Mood,
+    board: Board,
+    player: Player,
+}
+
+impl Trial {
+    pub(crate) fn of(alloc: Global, cards: u64) -> Result<Trial, AllocError> {
+        Ok(Trial {
+            alloc,
+            cards,
+            mood: Mood::Filling,
+            board: Board::new(alloc),
+            player: Player::new(alloc)?,
+        })
+    }
+
+    // What has to come of a saying; the board becomes what it has to be then.
+    fn due(&mut self, saying: Saying, rows: &mut Rows) -> Result<Due, AllocError> {
+        let before = self.board.copy()?;
+        let refused = before.refusal(self.alloc, &saying)?;
+        if refused.is_none() {
+            self.board.follow(self.alloc, rows, &saying)?;
+        }
+        Ok(Due {
+            before,
+            refused,
+            after: self.board.copy()?,
+            saying,
+        })
+    }
+
+    // Says something to both; the difference, if there is one.
+    pub(crate) fn say(
+        &mut self,
+        numbers: &mut Numbers,
+        rows: &mut Rows,
+        counts: &mut Counts,
+    ) -> Result<Option<Difference>, AllocError> {
+        self.mood = self.mood.next(numbers);
+        let saying = draw(self.alloc, numbers, self.mood, &self.board, self.cards)?;
+        let answer = self.player.say(&saying, numbers)?;
+        let due = self.due(saying, rows)?;
+        counts.note(&due, &answer)?;
+        let what = if rows.unfixed > 0 {
+            Some("the lines of 'How little changes' leave no row, or not just one")
+        } else {
+            due.differs(&answer, &self.player)
+        };
+        let Some(what) = what else {
+            return Ok(None);
+        };
+        Ok(Some(Difference { what, due, answer }))
+    }
+
+    // Says on standard error what came otherwise.
+    pub(crate) fn report(&self, rt: &HostRuntime, difference: &Difference) -> io::Result<()> {
+        let Difference { what, due, answer } = difference;
+        let saying = &due.saying;
+        let row = Cards(due.before.row.as_slice());
+        let links = Listed(due.before.links.as_slice());
+        eprintln!(rt; "said:              {saying}")?;
+        eprintln!(rt; "what differs:      {what}")?;
+        eprintln!(rt; "the row before:    {row}")?;
+        eprintln!(rt; "the links before:  {links}")?;
+        let wanted = Cards(due.after.row.as_slice());
+        match due.end() {
+            Ok(()) => eprintln!(rt; "wanted:            done, the row is {wanted}")?,
+            Err(number) => eprintln!(rt; "wanted:            refused {number}")?,
+        }
+        let shown = Cards(answer.shown.as_slice());
+        match answer.end {
+            Some(Ok(())) => eprintln!(rt; "came:              done, shown: {shown}")?,
+            Some(Err(number)) => eprintln!(rt;
+                "came:              refused {number}, shown: {shown}"
+            )?,
+            None => eprintln!(rt; "came:              no end within three steps")?,
+        }
+        let read = Cards(self.player.read());
+        let kept = Cards(self.player.kept());
+        eprintln!(rt; "the row as read:   {read}")?;
+        eprintln!(rt; "the row as told:   {kept}")
+    }
+}
