@@ -61,6 +61,8 @@ pub(crate) struct Counts {
     told: u64,
     idle: u64,
     busy: u64,
+    most_cards: usize,
+    most_links: usize,
 }
 
 impl Counts {
@@ -78,6 +80,8 @@ impl Counts {
             told: 0,
             idle: 0,
             busy: 0,
+            most_cards: 0,
+            most_links: 0,
         }
     }
 
@@ -114,6 +118,8 @@ impl Counts {
             Saying::Anew => self.anew.note(due),
         }
         self.note_course(answer);
+        self.most_cards = self.most_cards.max(due.after.row.len());
+        self.most_links = self.most_links.max(due.after.links.len());
         if due.refused == Some(Why::Round) {
             self.note_way(answer.shown.len())?;
         }
@@ -130,7 +136,7 @@ impl Counts {
         println!(rt; "")
     }
 
-    pub(crate) fn print(&self, rt: &HostRuntime, tried: u64) -> io::Result<()> {
+    pub(crate) fn print(&self, rt: &HostRuntime) -> io::Result<()> {
         println!(rt;
             "                           done    moved        3        4        5        7"
         )?;
@@ -147,10 +153,12 @@ impl Counts {
             told,
             idle,
             busy,
+            most_cards,
+            most_links,
             ..
         } = self;
+        println!(rt; "most cards at once: {most_cards}, most links: {most_links}")?;
         println!(rt; "step by step: {by_steps}, told of the row: {told}")?;
-        println!(rt; "out of turn: refused 1: {idle}, refused 2: {busy}")?;
-        println!(rt; "rows tried: {tried}")
+        println!(rt; "out of turn: refused 1: {idle}, refused 2: {busy}")
     }
 }

@@ -35,8 +35,8 @@ const FILLING: [(Kind, u64); 7] = [
 
 const THINNING: [(Kind, u64); 7] = [
     (Kind::Comes, 6),
-    (Kind::Goes, 6),
-    (Kind::Link, 6),
+    (Kind::Goes, 3),
+    (Kind::Link, 9),
     (Kind::Unlink, 14),
     (Kind::Places, 3),
     (Kind::Several, 4),
@@ -51,9 +51,9 @@ impl Mood {
         }
     }
 
-    // After some time the mood is the other one.
-    pub(crate) fn next(self, numbers: &mut Numbers) -> Mood {
-        if numbers.once_in(60) {
+    // After some time, longer for more cards, the mood is the other one.
+    pub(crate) fn next(self, numbers: &mut Numbers, cards: u64) -> Mood {
+        if numbers.once_in(cards.saturating_mul(12)) {
             self.other()
         } else {
             self
@@ -119,7 +119,7 @@ impl<'a> Drawing<'a> {
 
     // Two cards, now and then of a link that is there, or of one turned round.
     fn pair(&mut self) -> Pair {
-        match self.numbers.below(24) {
+        match self.numbers.below(48) {
             0 => self.old_pair(),
             1 => self.old_pair().turned(),
             _ => self.two_cards(),

@@ -17,10 +17,8 @@ mod trial;
 mod words;
 
 use anyhow::{anyhow, bail};
-use counts::Counts;
 use numbers::Numbers;
 use program::Program;
-use rows::Rows;
 use std::env::Args;
 use std::process::ExitCode;
 use std::{env, io};
@@ -63,21 +61,20 @@ fn say_all(rt: &HostRuntime, seed: u64, count: u64) -> anyhow::Result<()> {
     let mut small = Trial::of(rt.alloc(), FEW)?;
     let mut large = Trial::of(rt.alloc(), MANY)?;
     let mut numbers = Numbers::of(seed);
-    let mut rows = Rows::new(rt.alloc());
-    let mut counts = Counts::new(rt.alloc());
     for number in 1..=count {
         let trial = if number % 4 == 0 {
             &mut large
         } else {
             &mut small
         };
-        if let Some(difference) = trial.say(&mut numbers, &mut rows, &mut counts)? {
+        if let Some(difference) = trial.say(&mut numbers)? {
             trial.report(rt, &difference)?;
             bail!("saying {number} came out otherwise; again: beside {seed} {number}");
         }
     }
     println!(rt; "seed {seed}: {count} sayings, and no difference")?;
-    counts.print(rt, rows.tried)?;
+    small.print(rt)?;
+    large.print(rt)?;
     Ok(())
 }
 

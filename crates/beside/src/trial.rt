@@ -18,6 +18,7 @@ pub(crate) struct Difference {
     answer: Answer,
 }
 
+// On the board stand at most so many cards.
 #[derive(Drop)]
 pub(crate) struct Trial {
     alloc: Global,
@@ -25,6 +26,8 @@ pub(crate) struct Trial {
     mood: Mood,
     board: Board,
     player: Player,
+    rows: Rows,
+    counts: Counts,
 }
 
 impl Trial {
@@ -35,15 +38,17 @@ impl Trial {
             mood: Mood::Filling,
             board: Board::new(alloc),
             player: Player::new(alloc)?,
+            rows: Rows::new(alloc),
+            counts: Counts::new(alloc),
         })
     }
 
     // What has to come of a saying; the board becomes what it has to be then.
-    fn due(&mut self, saying: Saying, rows: &mut Rows) -> Result<Due, AllocError> {
+    fn due(&mut self, saying: Saying) -> Result<Due, AllocError> {
         let before = self.board.copy()?;
         let refused = before.refusal(self.alloc, &saying)?;
         if refused.is_none() {
-            self.board.follow(self.alloc, rows, &saying)?;
+            self.board.follow(self.alloc, &mut self.rows, &saying)?;
         }
         Ok(Due {
             before,
@@ -54,18 +59,13 @@ impl Trial {
     }
 
     // Says something to both; the difference, if there is one.
-    pub(crate) fn say(
-        &mut self,
-        numbers: &mut Numbers,
-        rows: &mut Rows,
-        counts: &mut Counts,
-    ) -> Result<Option<Difference>, AllocError> {
-        self.mood = self.mood.next(numbers);
+    pub(crate) fn say(&mut self, numbers: &mut Numbers) -> Result<Option<Difference>, AllocError> {
+        self.mood = self.mood.next(numbers, self.cards);
         let saying = draw(self.alloc, numbers, self.mood, &self.board, self.cards)?;
         let answer = self.player.say(&saying, numbers)?;
-        let due = self.due(saying, rows)?;
-        counts.note(&due, &answer)?;
-        let what = if rows.unfixed > 0 {
+        let due = self.due(saying)?;
+        self.counts.note(&due, &answer)?;
+        let what = if self.rows.unfixed > 0 {
             Some("the lines of 'How little changes' leave no row, or not just one")
         } else {
             due.differs(&answer, &self.player)
@@ -74,6 +74,16 @@ impl Trial {
             return Ok(None);
         };
         Ok(Some(Difference { what, due, answer }))
+    }
+
+    // Prints how often what was seen.
+    pub(crate) fn print(&self, rt: &HostRuntime) -> io::Result<()> {
+        let cards = self.cards;
+        let tried = self.rows.tried;
+        println!(rt; "")?;
+        println!(rt; "at most {cards} cards")?;
+        self.counts.print(rt)?;
+        println!(rt; "rows tried: {tried}")
     }
 
     // Says on standard error what came otherwise.
