@@ -40,11 +40,6 @@ impl Board {
         self.row.iter().position(|other| *other == card)
     }
 
-    // Whether b stands before a.
-    pub(crate) fn is_backward(&self, pair: Pair) -> bool {
-        !stands_before(self.row.as_slice(), pair)
-    }
-
     // These links and those of the board.
     pub(crate) fn links_with(&self, pairs: &[Pair]) -> Result<Vec<Pair>, AllocError> {
         let mut links = self.links.clone()?;

@@ -1,6 +1,7 @@
 // Whether what came of a saying is what had to come of it.
+use crate::answer::{Answer, Course, Part};
 use crate::board::{Board, keeps};
-use crate::player::{Answer, Part, Player};
+use crate::player::Player;
 use crate::refusing::Why;
 use crate::saying::{Pair, Saying};
 
@@ -96,7 +97,7 @@ impl Due {
     }
 
     // The part of the row that may be told of.
-    fn part(&self) -> Option<Part> {
+    pub(crate) fn part(&self) -> Option<Part> {
         if self.refused.is_some() {
             return None;
         }
@@ -135,7 +136,7 @@ impl Due {
     // What came otherwise, if anything did.
     pub(crate) fn differs(&self, answer: &Answer, player: &Player) -> Option<&'static str> {
         let row = self.after.row.as_slice();
-        if !answer.in_turn {
+        if !answer.keeps_turn() {
             return Some("what was said out of turn wasn't refused by 1 or 2");
         }
         if answer.end != Some(self.end()) {
@@ -150,7 +151,7 @@ impl Due {
         if player.kept() != row {
             return Some("the row as it was told");
         }
-        if answer.by_steps && !self.tells(answer.told) {
+        if answer.course == Course::StepByStep && !self.tells(answer.told) {
             return Some("which part of the row is told");
         }
         if !self.stays_outside() {

@@ -1,6 +1,6 @@
 // How often what was seen.
+use crate::answer::{Answer, Course};
 use crate::comparing::Due;
-use crate::player::Answer;
 use crate::refusing::Why;
 use crate::saying::Saying;
 use std::alloc::{AllocError, Global};
@@ -97,14 +97,14 @@ impl Counts {
     }
 
     fn note_course(&mut self, answer: &Answer) {
-        if answer.by_steps {
+        if answer.course == Course::StepByStep {
             count(&mut self.by_steps);
         }
         if answer.told.is_some() {
             count(&mut self.told);
         }
-        self.idle = self.idle.saturating_add(answer.idle);
-        self.busy = self.busy.saturating_add(answer.busy);
+        self.idle = self.idle.saturating_add(answer.idle.said);
+        self.busy = self.busy.saturating_add(answer.busy.said);
     }
 
     pub(crate) fn note(&mut self, due: &Due, answer: &Answer) -> Result<(), AllocError> {

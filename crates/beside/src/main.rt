@@ -1,6 +1,7 @@
 // Says the same to the keeper and to a slow board, by chance, and compares what comes of it.
 #![tactic(auto)]
 
+mod answer;
 mod board;
 mod comparing;
 mod counts;
@@ -11,6 +12,7 @@ mod lines;
 mod numbers;
 mod player;
 mod refusing;
+mod reporting;
 mod rows;
 mod saying;
 mod trial;

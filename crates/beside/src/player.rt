@@ -1,33 +1,11 @@
 // The keeper's side: what is said is said to the keeper, in one go or step by step, and what comes of it is noted.
+use crate::answer::{Answer, Course, Part};
 use crate::numbers::Numbers;
 use crate::saying::{Pair, Saying};
 use batch::{Event, play, step};
 use keeper::{Act, MEMORY, OUTPUT, Reason, read_row};
 use row::{Command, Link};
 use std::alloc::{AllocError, Global};
-
-// A part of the row: the places from one on, and before another.
-#[derive(Clone, Copy, Debug, PartialEq, Eq)]
-pub(crate) struct Part {
-    pub from: u64,
-    pub to: u64,
-}
-
-// What came of a saying.
-#[derive(Drop)]
-pub(crate) struct Answer {
-    // Whether it was done, or the number by which it was refused; nothing, if it had no end within three steps.
-    pub end: Option<Result<(), u64>>,
-    // The numbers that were shown.
-    pub shown: Vec<u64>,
-    // Whether it was said step by step, and the part of the row of which was told then.
-    pub by_steps: bool,
-    pub told: Option<Part>,
-    // How often `Next` was said with nothing pending, and how often a command while one was pending; and whether all of them were refused.
-    pub idle: u64,
-    pub busy: u64,
-    pub in_turn: bool,
-}
 
 // The lent memory and output; the links that are said at once; the row as the caller keeps it, and as it is read.
 #[derive(Drop)]
@@ -117,11 +95,7 @@ impl Player {
         Ok(Answer {
             end: Some(played.outcome.map_err(u64::from)),
             shown: self.shown(played.shown)?,
-            by_steps: false,
-            told: None,
-            idle: 0,
-            busy: 0,
-            in_turn: true,
+            ..Answer::none(self.alloc, Course::InOneGo)
         })
     }
 
@@ -136,9 +110,9 @@ impl Player {
     // Says `Next` now and then, with nothing pending.
     fn interrupt_idle(&mut self, numbers: &mut Numbers, answer: &mut Answer) {
         if numbers.once_in(4) {
-            let refused = self.step(Event::Next) == Err(Reason::Idle);
-            answer.in_turn = answer.in_turn && refused;
-            answer.idle = answer.idle.saturating_add(1);
+            answer
+                .idle
+                .note(self.step(Event::Next) == Err(Reason::Idle));
         }
     }
 
@@ -151,9 +125,7 @@ impl Player {
             3 => Event::Anew,
             _ => return,
         };
-        let refused = self.step(event) == Err(Reason::Busy);
-        answer.in_turn = answer.in_turn && refused;
-        answer.busy = answer.busy.saturating_add(1);
+        answer.busy.note(self.step(event) == Err(Reason::Busy));
     }
 
     // Notes what a step answered. Whether it goes on.
@@ -161,13 +133,9 @@ impl Player {
         match act {
             Ok(Act::Tells(from, n)) => {
                 self.hear(from, n);
-                let to = from.saturating_add(n);
-                answer.told = Some(match answer.told {
-                    Some(part) => Part {
-                        from: part.from.min(from),
-                        to: part.to.max(to),
-                    },
-                    None => Part { from, to },
+                answer.note_told(Part {
+                    from,
+                    to: from.saturating_add(n),
                 });
             }
             Ok(Act::Shows(n)) => answer.shown = self.shown(n)?,
@@ -179,15 +147,7 @@ impl Player {
 
     // Says it step by step, sometimes with other words in between.
     fn take_steps(&mut self, event: Event, numbers: &mut Numbers) -> Result<Answer, AllocError> {
-        let mut answer = Answer {
-            end: None,
-            shown: Vec::new(self.alloc),
-            by_steps: true,
-            told: None,
-            idle: 0,
-            busy: 0,
-            in_turn: true,
-        };
+        let mut answer = Answer::none(self.alloc, Course::StepByStep);
         self.interrupt_idle(numbers, &mut answer);
         for event in [event, Event::Next, Event::Next] {
             let act = self.step(event);
@@ -222,7 +182,7 @@ impl Player {
             self.take_steps(event, numbers)?
         };
         self.read = read_row(self.memory.as_slice(), self.room.as_mut_slice()) as usize;
-        if !answer.by_steps {
+        if answer.course == Course::InOneGo {
             self.kept = self.read().to_vec(self.alloc)?;
         } else if answer.end == Some(Ok(())) {
             self.follow(saying)?;

@@ -1,12 +1,13 @@
 // A keeper and a slow board to which the same is said.
+use crate::answer::Answer;
 use crate::board::Board;
 use crate::comparing::Due;
 use crate::counts::Counts;
 use crate::drawing::{Mood, draw};
 use crate::numbers::Numbers;
-use crate::player::{Answer, Player};
+use crate::player::Player;
 use crate::rows::Rows;
-use crate::saying::{Cards, Listed, Saying};
+use crate::saying::Saying;
 use std::alloc::{AllocError, Global};
 use std::io;
 
@@ -89,29 +90,9 @@ impl Trial {
     // Says on standard error what came otherwise.
     pub(crate) fn report(&self, rt: &HostRuntime, difference: &Difference) -> io::Result<()> {
         let Difference { what, due, answer } = difference;
-        let saying = &due.saying;
-        let row = Cards(due.before.row.as_slice());
-        let links = Listed(due.before.links.as_slice());
-        eprintln!(rt; "said:              {saying}")?;
-        eprintln!(rt; "what differs:      {what}")?;
-        eprintln!(rt; "the row before:    {row}")?;
-        eprintln!(rt; "the links before:  {links}")?;
-        let wanted = Cards(due.after.row.as_slice());
-        match due.end() {
-            Ok(()) => eprintln!(rt; "wanted:            done, the row is {wanted}")?,
-            Err(number) => eprintln!(rt; "wanted:            refused {number}")?,
-        }
-        let shown = Cards(answer.shown.as_slice());
-        match answer.end {
-            Some(Ok(())) => eprintln!(rt; "came:              done, shown: {shown}")?,
-            Some(Err(number)) => eprintln!(rt;
-                "came:              refused {number}, shown: {shown}"
-            )?,
-            None => eprintln!(rt; "came:              no end within three steps")?,
-        }
-        let read = Cards(self.player.read());
-        let kept = Cards(self.player.kept());
-        eprintln!(rt; "the row as read:   {read}")?;
-        eprintln!(rt; "the row as told:   {kept}")
+        eprintln!(rt; "what differs:     {what}")?;
+        due.report(rt)?;
+        answer.report(rt)?;
+        self.player.report(rt)
     }
 }

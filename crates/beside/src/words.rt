@@ -13,9 +13,9 @@ pub(crate) enum Wish {
 pub(crate) enum WordsError {
     #[error("a seed and a number of sayings are wanted")]
     NotTwo,
-    #[error("the seed is no number below 2^64")]
+    #[error("the seed has to be a number below 2^64")]
     Seed,
-    #[error("how many sayings is no number below 2^64")]
+    #[error("the number of sayings has to be a number below 2^64")]
     Count,
 }
 
