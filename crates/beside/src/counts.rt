@@ -42,7 +42,9 @@ impl Tally {
             round,
             full,
         } = *self;
-        println!(rt; "{name:<24}{stayed:>9}{moved:>9}{missing:>9}{exists:>9}{round:>9}{full:>9}")
+        println!(rt;
+            "{name:<18}{stayed:>11}{moved:>11}{missing:>11}{exists:>11}{round:>11}{full:>11}"
+        )
     }
 }
 
@@ -138,7 +140,7 @@ impl Counts {
 
     pub(crate) fn print(&self, rt: &HostRuntime) -> io::Result<()> {
         println!(rt;
-            "                           done    moved        3        4        5        7"
+            "                         done      moved  refused 3  refused 4  refused 5  refused 7"
         )?;
         self.comes.print(rt, "a card comes")?;
         self.goes.print(rt, "a card goes")?;

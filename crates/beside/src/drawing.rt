@@ -17,9 +17,17 @@ pub(crate) enum Kind {
 
 // In turns, a board gets fuller for a while and then emptier.
 #[derive(Clone, Copy, Debug, PartialEq, Eq)]
-pub(crate) enum Mood {
+enum Trend {
     Filling,
     Thinning,
+}
+
+// How a board goes for a while: and whether its row is made anew now and then. If it never is, so much is taken back in the end that the keeper clears up by
+// itself.
+#[derive(Clone, Copy, Debug, PartialEq, Eq)]
+pub(crate) struct Mood {
+    trend: Trend,
+    tidies: bool,
 }
 
 // How often what is said, of 40 times.
@@ -43,27 +51,18 @@ const THINNING: [(Kind, u64); 7] = [
     (Kind::Anew, 1),
 ];
 
-impl Mood {
-    fn other(self) -> Mood {
+impl Trend {
+    fn other(self) -> Trend {
         match self {
-            Mood::Filling => Mood::Thinning,
-            Mood::Thinning => Mood::Filling,
-        }
-    }
-
-    // After some time, longer for more cards, the mood is the other one.
-    pub(crate) fn next(self, numbers: &mut Numbers, cards: u64) -> Mood {
-        if numbers.once_in(cards.saturating_mul(12)) {
-            self.other()
-        } else {
-            self
+            Trend::Filling => Trend::Thinning,
+            Trend::Thinning => Trend::Filling,
         }
     }
 
     fn kind(self, numbers: &mut Numbers) -> Kind {
         let kinds = match self {
-            Mood::Filling => FILLING,
-            Mood::Thinning => THINNING,
+            Trend::Filling => FILLING,
+            Trend::Thinning => THINNING,
         };
         let mut left = numbers.below(40);
         for (kind, times) in kinds {
@@ -73,6 +72,32 @@ impl Mood {
             left -= times;
         }
         Kind::Anew
+    }
+}
+
+impl Mood {
+    pub(crate) const FIRST: Mood = Mood {
+        trend: Trend::Filling,
+        tidies: true,
+    };
+
+    // The mood changes after some time; the trend later, if there are more cards.
+    pub(crate) fn next(self, numbers: &mut Numbers, cards: u64) -> Mood {
+        let turns = numbers.once_in(cards.saturating_mul(12));
+        let trend = if turns {
+            self.trend.other()
+        } else {
+            self.trend
+        };
+        let tidies = self.tidies != numbers.once_in(10_000);
+        Mood { trend, tidies }
+    }
+
+    fn kind(self, numbers: &mut Numbers) -> Kind {
+        match self.trend.kind(numbers) {
+            Kind::Anew if !self.tidies => Kind::Places,
+            kind => kind,
+        }
     }
 }
 

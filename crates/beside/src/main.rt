@@ -36,22 +36,27 @@ const HELP: &str = "\
 usage: beside SEED COUNT
 
 Says COUNT random sayings to the proved keeper and to a slow board beside it,
-which is written only to be plain and looks through everything, and compares
-what comes of each: whether it is done or refused, and why, the row, the part
-of the row that is told, the places and the ways that are shown. The sayings
-are fixed by SEED. Three of four are about a board of up to six cards, on which
-all rows are tried for a link that goes backward; the others about one of up to
-seventy.
+which is written to be plain and looks through everything, and compares what
+comes of each: whether it is done or refused, and why; the row; the part of the
+row that is told; the places and the ways that are shown. The sayings depend on
+SEED alone. Three of four are about a board of at most six cards, where all rows
+are tried for a link that goes backward; the others about one of at most seventy.
 
-If all comes out the same, what was seen is printed, how often: for each kind
-of saying how many were done with no card moved, done with some moved, and
-refused by 3, 4, 5 and 7; the ways that were shown, by how many cards they have;
-what was said step by step, with how many of these told of the row; what was
-said out of turn; and how many rows were tried.
+If all comes out the same, what was seen is printed, for each of the two boards:
+  done, moved, refused 3 ..    of each kind of saying, how many were done with no
+                               card moved, done with some moved, and refused
+  ways shown                   5: 12 is twelve ways of five cards
+  most cards at once           and most links at once
+  step by step                 how many weren't played in one go, and of how many
+                               of these some of the row was told
+  out of turn                  how often to go on was said with nothing pending,
+                               which is refused by 1, and something else while
+                               something was pending, which is refused by 2
+  rows tried                   to see which one is right
 
-If something comes out otherwise, standard error says what was said, the row
-and the links before, what was wanted and what came, and how to run it again
-just up to that saying. The status is 1 then.
+If something comes out otherwise, standard error says what was said, the row and
+the links before, what was wanted and what came, and how to run it again just up
+to that saying. The status is 1 then.
 ";
 
 // How many cards there are at most on the small board and on the large one.

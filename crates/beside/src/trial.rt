@@ -36,7 +36,7 @@ impl Trial {
         Ok(Trial {
             alloc,
             cards,
-            mood: Mood::Filling,
+            mood: Mood::FIRST,
             board: Board::new(alloc),
             player: Player::new(alloc)?,
             rows: Rows::new(alloc),
