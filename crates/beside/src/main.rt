@@ -9,6 +9,7 @@ mod drawing;
 mod following;
 mod leading;
 mod lines;
+mod mood;
 mod numbers;
 mod player;
 mod refusing;
