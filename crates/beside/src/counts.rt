@@ -48,7 +48,8 @@ impl Tally {
     }
 }
 
-// By kind of saying; how many ways were shown, by their length; and how often what was said step by step, and out of turn.
+// By kind of saying; how many ways were shown, by their length; how often what was said step by step, and out of turn; the most cards and links at once; and
+// how many links are gone since the row was made anew, and the most of that.
 #[derive(Drop)]
 pub(crate) struct Counts {
     comes: Tally,
@@ -65,6 +66,8 @@ pub(crate) struct Counts {
     busy: u64,
     most_cards: usize,
     most_links: usize,
+    gone: usize,
+    most_gone: usize,
 }
 
 impl Counts {
@@ -84,6 +87,8 @@ impl Counts {
             busy: 0,
             most_cards: 0,
             most_links: 0,
+            gone: 0,
+            most_gone: 0,
         }
     }
 
@@ -109,6 +114,19 @@ impl Counts {
         self.busy = self.busy.saturating_add(answer.busy.said);
     }
 
+    fn note_size(&mut self, due: &Due) {
+        let links = due.after.links.len();
+        self.most_cards = self.most_cards.max(due.after.row.len());
+        self.most_links = self.most_links.max(links);
+        self.gone = match due.saying {
+            Saying::Anew => 0,
+            _ => self
+                .gone
+                .saturating_add(due.before.links.len().saturating_sub(links)),
+        };
+        self.most_gone = self.most_gone.max(self.gone);
+    }
+
     pub(crate) fn note(&mut self, due: &Due, answer: &Answer) -> Result<(), AllocError> {
         match &due.saying {
             Saying::Comes(_) => self.comes.note(due),
@@ -120,8 +138,7 @@ impl Counts {
             Saying::Anew => self.anew.note(due),
         }
         self.note_course(answer);
-        self.most_cards = self.most_cards.max(due.after.row.len());
-        self.most_links = self.most_links.max(due.after.links.len());
+        self.note_size(due);
         if due.refused == Some(Why::Round) {
             self.note_way(answer.shown.len())?;
         }
@@ -157,9 +174,11 @@ impl Counts {
             busy,
             most_cards,
             most_links,
+            most_gone,
             ..
         } = self;
         println!(rt; "most cards at once: {most_cards}, most links: {most_links}")?;
+        println!(rt; "most links gone with no row made anew: {most_gone}")?;
         println!(rt; "step by step: {by_steps}, told of the row: {told}")?;
         println!(rt; "out of turn: refused 1: {idle}, refused 2: {busy}")
     }

@@ -48,6 +48,7 @@ If all comes out the same, what was seen is printed, for each of the two boards:
                                card moved, done with some moved, and refused
   ways shown                   5: 12 is twelve ways of five cards
   most cards at once           and most links at once
+  most links gone ..           when so many are gone, the keeper clears up by itself
   step by step                 how many weren't played in one go, and of how many
                                of these some of the row was told
   out of turn                  how often to go on was said with nothing pending,
