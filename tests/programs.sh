@@ -2,13 +2,18 @@
 # The programs on bad input and good: what they print, what they say on standard error, and their status. They are proved and built first.
 set -u
 cd "$(dirname "$0")/.." || exit 1
-for program in board verify; do
-  if ! (cd crates/$program && rt run <stdin >/dev/null 2>&1); then
-    echo "programs: $program isn't proved, built and run: see 'rt run <stdin' in crates/$program"
+# build PROGRAM [ARGS..]: proves and builds it, and runs it once.
+build() {
+  if ! (cd crates/"$1" && rt run "${@:2}" >/dev/null 2>&1); then
+    echo "programs: $1 isn't proved, built and run: see 'rt run' in crates/$1"
     echo '0 passed, 1 failed'
     exit 1
   fi
-done
+}
+
+build board <crates/board/stdin
+build verify <crates/verify/stdin
+build beside -- 1 0 </dev/null
 passed=0
 failed=0
 out=$(mktemp)
@@ -36,11 +41,11 @@ run() {
   status=$?
 }
 
-# Of a help text the first line is compared.
+# helps PROGRAM ARGS: of a help text the first line is compared, that the program is called with these.
 helps() {
   run "$1" '' --help
   sed -i 1q "$out"
-  expect "$1: help" 0 "usage: $1 FILE"$'\n' none
+  expect "$1: help" 0 "usage: $1 $2"$'\n' none
 }
 
 two='\x00\x01\x00\x00\x02\x00'
@@ -84,7 +89,7 @@ run board '' one two
 expect 'board: two files' 1 '' 'more than one file; see board --help'
 run board '' crates/board/stdin
 expect 'board: a file' 0 "$(cat crates/board/stdout)"$'\n' none
-helps board
+helps board FILE
 
 run verify '\x02\x00\x01\x00\x02\x00\x01\x00\x02\x00'
 expect 'verify: kept' 0 $'kept\n' none
@@ -102,7 +107,21 @@ run verify '' no-such-file
 expect 'verify: no file' 1 '' 'no-such-file: No such file or directory (os error 2)'
 run verify '' one two
 expect 'verify: two files' 1 '' 'more than one file; see verify --help'
-helps verify
+helps verify FILE
+
+run beside '' 1 300000
+expect 'beside: the sayings of the gate' 0 "$(cat crates/beside/stdout)"$'\n' none
+run beside ''
+expect 'beside: no words' 1 '' 'a seed and a number of sayings are wanted; see beside --help'
+run beside '' 1
+expect 'beside: one word' 1 '' 'a seed and a number of sayings are wanted; see beside --help'
+run beside '' 1 2 3
+expect 'beside: three words' 1 '' 'a seed and a number of sayings are wanted; see beside --help'
+run beside '' one 2
+expect 'beside: a seed that is no number' 1 '' 'the seed has to be a number below 2^64; see beside --help'
+run beside '' 1 -2
+expect 'beside: so many sayings as there are not' 1 '' 'the number of sayings has to be a number below 2^64; see beside --help'
+helps beside 'SEED COUNT'
 
 echo "$passed passed, $failed failed"
 [ "$failed" = 0 ]
