@@ -31,7 +31,7 @@ unfoldable pub slot_at : List ℕ → ℕ → ℕ
 slot_at m i = slot_of m (cell m numbers i)
 
 abbrev pub ordered : ℕ → List ℕ → List ℕ
-ordered n m = sorted_part (filled card_at numbers n m 0) 454208 (454208 + n)
+ordered n m = sorted_part (filled card_at numbers n m 0) 503360 (503360 + n)
 
 abbrev pub looked_up : ℕ → List ℕ → List ℕ
 looked_up n m = filled slot_at spare n (ordered n m) 0

@@ -7,13 +7,13 @@
 use Rattle.row.specs.declared.column.Column.{Column}
 
 abbrev pub spare : Column
-spare = record { base = 429416; size = 8192 }
+spare = record { base = 478568; size = 8192 }
 
 abbrev pub awaits : Column
-awaits = record { base = 437680; size = 8192 }
+awaits = record { base = 486832; size = 8192 }
 
 abbrev pub leaves : Column
-leaves = record { base = 445944; size = 8192 }
+leaves = record { base = 495096; size = 8192 }
 
 abbrev pub numbers : Column
-numbers = record { base = 454208; size = 8192 }
+numbers = record { base = 503360; size = 8192 }

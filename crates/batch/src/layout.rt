@@ -7,24 +7,24 @@ pub const BATCH: usize = 256;
 
 // By place: a slot, of the row as it was before several links were tried, or of the row that is made anew.
 pub const SPARE: Column = Column {
-    base: 429416,
+    base: 478568,
     size: 8192,
 };
 
 // By slot: how many links come into it from cards that haven't come yet.
 pub const WAITS: Column = Column {
-    base: 437680,
+    base: 486832,
     size: 8192,
 };
 
 // By slot: how many links go out of it.
 pub const LEAVES: Column = Column {
-    base: 445944,
+    base: 495096,
     size: 8192,
 };
 
 // The numbers of the cards, in their order.
 pub const NUMBERS: Column = Column {
-    base: 454208,
+    base: 503360,
     size: 8192,
 };

@@ -29,7 +29,7 @@ pushed_apart m c k l d j a =
     cell_apart (written m (pointers c) (heads c + l) (cell m (pointers c) k)) (pointers c) d k j (l + 1) a
     ∙ cell_apart m (pointers c) d (heads c + l) j (cell m (pointers c) k) a
 
-fronted : (m : List ℕ) (c : Chain) (k l : ℕ) → 412288 ≤ length m → k < heads c → l < 67584 → Fronted m (pushed m c k l) c k l
+fronted : (m : List ℕ) (c : Chain) (k l : ℕ) → 461440 ≤ length m → k < heads c → l < 67584 → Fronted m (pushed m c k l) c k l
 unfolding pushed
 fronted m c k l g b i =
     let r = room_for c in
@@ -112,7 +112,7 @@ module _ (m : List ℕ) (l : ℕ) (x : Link) where
       added_aside tos j refl ∙ hung_aside tos j from_tos ∙ cell_other (written m froms l x.from) tos l j x.to n
       ∙ cell_apart m froms tos l j x.from refl
 
-  module _ (g : 412288 ≤ length m) (b : l < 67584) where
+  module _ (g : 461440 ≤ length m) (b : l < 67584) where
     pub from_here : cell (added m l x) froms l ≡ x.from
     unfolding set_down
     from_here =

@@ -55,12 +55,12 @@ tos_from In = refl
 tos_from Pair = refl
 
 -- heads by key, then one pointer by entry
-pub room_for : (c : Chain) → (heads c + 67584 ≡ (pointers c).size) × ((pointers c).base + (pointers c).size ≤ 412288)
+pub room_for : (c : Chain) → (heads c + 67584 ≡ (pointers c).size) × ((pointers c).base + (pointers c).size ≤ 461440)
 room_for Out = (refl, omega arith)
 room_for In = (refl, omega arith)
 room_for Pair = (refl, omega arith)
 
-pub bucket_below : (x : Link) → pair_bucket x < 16384
+pub bucket_below : (x : Link) → pair_bucket x < 65536
 unfolding pair_bucket
 bucket_below x = omega arith
 

@@ -68,7 +68,7 @@ buried_dead : (m : List ℕ) (l : ℕ) → dead m l ≡ true → buried m l ≡ 
 unfolding buried
 buried_dead m l d = rw d refl
 
-module _ (m : List ℕ) (l : ℕ) (g : 412288 ≤ length m) (b : l < 67584) where
+module _ (m : List ℕ) (l : ℕ) (g : 461440 ≤ length m) (b : l < 67584) where
   abbrev marked : List ℕ
   marked = written (written m froms l 8192) tos l 8192
 

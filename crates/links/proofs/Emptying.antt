@@ -24,7 +24,7 @@ edges_none : (m : List ℕ) → end m ≡ 0 → edges m ≡ []
 unfolding edges_of
 edges_none m z = rw z refl
 
-pub tabled_none : (m : List ℕ) → 412288 ≤ length m → live m ≡ 0 → end m ≡ 0 → ((c : Chain) (k : ℕ) → k < heads c → cell m (pointers c) k ≡ 0)
+pub tabled_none : (m : List ℕ) → 461440 ≤ length m → live m ≡ 0 → end m ≡ 0 → ((c : Chain) (k : ℕ) → k < heads c → cell m (pointers c) k ≡ 0)
     → Tabled m × (edges m ≡ [])
 tabled_none m g l z h =
     let e = edges_none m z in (
@@ -69,7 +69,7 @@ module _ (m : List ℕ) (c : Chain) where
   length_headless : length (headless m c) ≡ length m
   length_headless = length_blanked (heads c) m (pointers c) 0
 
-  headless_here : 412288 ≤ length m → (k : ℕ) → k < heads c → cell (headless m c) (pointers c) k ≡ 0
+  headless_here : 461440 ≤ length m → (k : ℕ) → k < heads c → cell (headless m c) (pointers c) k ≡ 0
   headless_here g k b =
       let r = room_for c in
       let e = blanked_in (heads c) m (pointers c) 0 k (omega (arith, r.1)) (omega (arith, r.0)) in
@@ -110,7 +110,7 @@ module _ (m : List ℕ) where
   emptied_aside d j t a =
       emptied_tally d j t ∙ headless_apart n₂ Pair d j (a Pair) ∙ headless_apart n₁ In d j (a In) ∙ headless_apart m Out d j (a Out)
 
-  module _ (g : 412288 ≤ length m) where
+  module _ (g : 461440 ≤ length m) where
     pub end_emptied : end (emptied m) ≡ 0
     end_emptied =
         ap end emptied_is ∙ cell_same (written n₃ tally 2 0) tally 3 0 (omega arith) (omega (arith, length_written n₃ tally 2 0, length₃))
@@ -130,6 +130,6 @@ module _ (m : List ℕ) where
     tabled_emptied = tabled_none (emptied m) (omega (arith, length_emptied)) live_emptied end_emptied heads_emptied
 
 -- zeros
-pub tabled_zeros : (n : ℕ) → 412288 ≤ n → Tabled (replicate n 0) × (edges (replicate n 0) ≡ [])
+pub tabled_zeros : (n : ℕ) → 461440 ≤ n → Tabled (replicate n 0) × (edges (replicate n 0) ≡ [])
 tabled_zeros n g =
     tabled_none (replicate n 0) (omega (arith, length-replicate {A = ℕ} n 0)) (cell_zeros n tally 2) (cell_zeros n tally 3) (λ c k b. cell_zeros n (pointers c) k)

@@ -33,12 +33,12 @@ joins_is x y h =
     r
 
 -- seeking is finding in a walk
-pub sought_in : (f : ℕ) (m : List ℕ) (p : ℕ) (x : Link) → sought f m p x ≡ option_map (λ e. e.number) (find (λ e. is_link m x e.number) (walked f (pointers Pair) 16384 67584 m p))
+pub sought_in : (f : ℕ) (m : List ℕ) (p : ℕ) (x : Link) → sought f m p x ≡ option_map (λ e. e.number) (find (λ e. is_link m x e.number) (walked f (pointers Pair) 65536 67584 m p))
 unfolding sought walked followed
 sought_in zero m p x = refl
 sought_in (suc f) m p x =
-    find_given (λ (e : Entry). e.number) (λ (e : Entry). is_link m x e.number) p (held (pointers Pair) 67584 m p) (λ l. sought f m (16384 + l) x)
-    (λ l. walked f (pointers Pair) 16384 67584 m (16384 + l)) (λ l. sought_in f m (16384 + l) x)
+    find_given (λ (e : Entry). e.number) (λ (e : Entry). is_link m x e.number) p (held (pointers Pair) 67584 m p) (λ l. sought f m (65536 + l) x)
+    (λ l. walked f (pointers Pair) 65536 67584 m (65536 + l)) (λ l. sought_in f m (65536 + l) x)
 
 -- the ways of a step
 sought_none : (t : ℕ) (m : List ℕ) (p : ℕ) (x : Link) → followed m Pair p ≡ None → sought t m p x ≡ None
@@ -50,7 +50,7 @@ sought_here : (t : ℕ) (m : List ℕ) (p l : ℕ) (x : Link) → followed m Pai
 unfolding sought
 sought_here t m p l x e h = rw (e, h) refl
 
-sought_on : (t : ℕ) (m : List ℕ) (p l : ℕ) (x : Link) → followed m Pair p ≡ Some l → is_link m x l ≡ false → sought (suc t) m p x ≡ sought t m (16384 + l) x
+sought_on : (t : ℕ) (m : List ℕ) (p l : ℕ) (x : Link) → followed m Pair p ≡ Some l → is_link m x l ≡ false → sought (suc t) m p x ≡ sought t m (65536 + l) x
 unfolding sought
 sought_on t m p l x e h = rw (e, h) refl
 
@@ -86,7 +86,7 @@ module _ (m : List ℕ) (was : ℕ → Link) (h : Holds m was) (x : Link) (b : x
               | inl u ↦ sought_here t m p (y - 1) x f u ∙ sym (rw (hits_is (y - 1) ∙ u) at n)
               | inr u ↦
                   let o = at_on m was h Pair p (pair_bucket x) e a i in
-                  let ih = sought_newest t (16384 + (y - 1)) (y - 1) o (omega (arith, o.skips.low)) in
+                  let ih = sought_newest t (65536 + (y - 1)) (y - 1) o (omega (arith, o.skips.low)) in
                   sought_on t m p (y - 1) x f u ∙ ih ∙ sym (rw (hits_is (y - 1) ∙ u) at n)
             ]
       ]

@@ -22,7 +22,7 @@ use Rattle.links.specs.Chains.{dead, followed}
 
 unfoldable pub pair_bucket : Link → ℕ
 pair_bucket x =
-    spread ((x.from * 8192 % 18446744073709551616 + x.to) % 18446744073709551616) / 1125899906842624
+    spread ((x.from * 8192 % 18446744073709551616 + x.to) % 18446744073709551616) / 281474976710656
 
 abbrev pub key : Chain → Link → ℕ
 key Out x = x.from
@@ -40,7 +40,7 @@ is_link m x l = joins x (link_at m l)
 
 unfoldable pub sought : ℕ → List ℕ → ℕ → Link → Option ℕ
 sought zero m p x = None
-sought (suc f) m p x = given (followed m Pair p) None (λ l. cond (is_link m x l) (Some l) (sought f m (16384 + l) x))
+sought (suc f) m p x = given (followed m Pair p) None (λ l. cond (is_link m x l) (Some l) (sought f m (65536 + l) x))
 
 abbrev pub found : List ℕ → Link → Option ℕ
 found m x = sought 67584 m (pair_bucket x) x

@@ -33,9 +33,9 @@ use Rattle.links.specs.Steps.{Told}
 
 abbrev pub Begins : Type 0
 Begins =
-    ((m : List ℕ) → 412288 ≤ length m → live m ≡ 0 → end m ≡ 0 → ((c : Chain) (k : ℕ) → k < heads c → cell m (pointers c) k ≡ 0)
+    ((m : List ℕ) → 461440 ≤ length m → live m ≡ 0 → end m ≡ 0 → ((c : Chain) (k : ℕ) → k < heads c → cell m (pointers c) k ≡ 0)
     → Tabled m × (edges m ≡ []))
-    × ((n : ℕ) → 412288 ≤ n → Tabled (replicate n 0) × (edges (replicate n 0) ≡ []))
+    × ((n : ℕ) → 461440 ≤ n → Tabled (replicate n 0) × (edges (replicate n 0) ≡ []))
 
 abbrev pub Counts : Type 0
 Counts = (m : List ℕ) → Tabled m → (live m ≡ length (edges m)) × (every (λ y. nat_lt y.from 8192 && nat_lt y.to 8192) (edges m) ≡ true)

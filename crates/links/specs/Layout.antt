@@ -20,15 +20,15 @@ end m = cell m tally 3
 abbrev pub pointers : Chain → Column
 pointers Out = record { base = 41312; size = 75776 }
 pointers In = record { base = 117160; size = 75776 }
-pointers Pair = record { base = 193008; size = 83968 }
+pointers Pair = record { base = 193008; size = 133120 }
 
 abbrev pub heads : Chain → ℕ
 heads Out = 8192
 heads In = 8192
-heads Pair = 16384
+heads Pair = 65536
 
 abbrev pub froms : Column
-froms = record { base = 277048; size = 67584 }
+froms = record { base = 326200; size = 67584 }
 
 abbrev pub tos : Column
-tos = record { base = 344704; size = 67584 }
+tos = record { base = 393856; size = 67584 }

@@ -33,7 +33,7 @@ once [] = true
 once (x ∷ xs) = not (any (joins x) xs) && once xs
 
 pub record Holds (m : List ℕ) (was : ℕ → Link) : Type 0 where
-  pub long : 412288 ≤ length m
+  pub long : 461440 ≤ length m
   pub room : end m ≤ 67584
   pub count : live m ≡ length (edges m)
   pub into : (l : ℕ) → l < end m → dead m l ≡ false → cell m tos l < 8192

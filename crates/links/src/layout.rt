@@ -38,22 +38,22 @@ pub const IN: Family = Family {
 pub const PAIR: Family = Family {
     pointers: Column {
         base: 193008,
-        size: 83968,
+        size: 133120,
     },
-    heads: 16384,
+    heads: 65536,
     entries: ENTRIES,
 };
 
 // How many spread numbers share a bucket of pairs: 2^64 over how many heads there are.
-pub const BUCKET: u64 = 0x0004_0000_0000_0000;
+pub const BUCKET: u64 = 0x0001_0000_0000_0000;
 
 // By entry: the slots that the link comes out of and goes into; SLOTS, which is no slot, where the entry is dead.
 pub const FROM: Column = Column {
-    base: 277048,
+    base: 326200,
     size: 67584,
 };
 
 pub const TO: Column = Column {
-    base: 344704,
+    base: 393856,
     size: 67584,
 };

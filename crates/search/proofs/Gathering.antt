@@ -63,7 +63,7 @@ unfolding wrote
 wrote_before m i [] j l = refl
 wrote_before m i (k ∷ ks) j l = wrote_before (written m chosen i k) (i + 1) ks j (omega arith) ∙ cell_other m chosen i j k (λ z. omega arith)
 
-pub wrote_reads : (m : List ℕ) (i : ℕ) (ks : List ℕ) → 428816 ≤ length m → i + length ks ≤ 8192 → Reads (wrote m i ks) i ks
+pub wrote_reads : (m : List ℕ) (i : ℕ) (ks : List ℕ) → 477968 ≤ length m → i + length ks ≤ 8192 → Reads (wrote m i ks) i ks
 unfolding wrote
 wrote_reads m i [] l r = tt
 wrote_reads m i (k ∷ ks) l r = (

@@ -136,7 +136,7 @@ module _ (m m₁ : List ℕ) (a b : ℕ) (R : Ready m) (ua : used m a ≡ true) 
   few_n : n ≤ 8192
   few_n = omega (arith, hi_below, count_below)
 
-  long : 429344 ≤ length m₁
+  long : 478496 ≤ length m₁
   long = P.hind_summed.lies
 
   hind_marks : Marking m₁ hind MA

@@ -7,13 +7,13 @@
 use Rattle.row.specs.declared.column.Column.{Column}
 
 abbrev pub fore : Column
-fore = record { base = 428888; size = 192 }
+fore = record { base = 478040; size = 192 }
 
 abbrev pub hind : Column
-hind = record { base = 429152; size = 192 }
+hind = record { base = 478304; size = 192 }
 
 abbrev pub via : Column
-via = record { base = 412360; size = 8192 }
+via = record { base = 461512; size = 8192 }
 
 abbrev pub chosen : Column
-chosen = record { base = 420624; size = 8192 }
+chosen = record { base = 469776; size = 8192 }

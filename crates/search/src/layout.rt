@@ -6,7 +6,7 @@ use row::Column;
 // The places that a search forward has come to.
 pub const FORE: Marks = Marks {
     column: Column {
-        base: 428888,
+        base: 478040,
         size: 192,
     },
 };
@@ -14,19 +14,19 @@ pub const FORE: Marks = Marks {
 // The places that a search backward has come to.
 pub const HIND: Marks = Marks {
     column: Column {
-        base: 429152,
+        base: 478304,
         size: 192,
     },
 };
 
 // By slot: the slot that a search came from.
 pub const VIA: Column = Column {
-    base: 412360,
+    base: 461512,
     size: 8192,
 };
 
 // The slots that get new places, in their new order.
 pub const CHOSEN: Column = Column {
-    base: 420624,
+    base: 469776,
     size: 8192,
 };

@@ -22,5 +22,5 @@ returns c =
     let f = find_from_yields_List test c.find.new.self _ c.find.result c.find.ensures.ran (YieldsList-from_first (λ x. x) walk_left _ c.walk.ensures) (λ x b q k. search (rules, tests)) in
     let r = sym (option_map_id c.find.result) ∙ f in
     let s = ap (option_map (λ (e : Entry). e.number)) r ∙ sym (sought_in 67584 m c.bucket_of.result x) in
-    let b = subst (λ o. Below (option_map (λ (e : Entry). e.number) o)) (sym r) (find_holds (pointers Pair) 16384 67584 m (λ o. Below (option_map (λ (e : Entry). e.number) o)) test tt (λ e b. b) 67584 c.bucket_of.result) in
+    let b = subst (λ o. Below (option_map (λ (e : Entry). e.number) o)) (sym r) (find_holds (pointers Pair) 65536 67584 m (λ o. Below (option_map (λ (e : Entry). e.number) o)) test tt (λ e b. b) 67584 c.bucket_of.result) in
     record { is = cc; below = subst Below (sym e) b }
