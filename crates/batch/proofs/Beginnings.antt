@@ -7,11 +7,11 @@ use Rattle.keeper.specs.declared.event.Act.{Act}
 use Rattle.keeper.specs.Engine.{action_of}
 use Rattle.keeper.specs.declared.event.Telling.{Telling}
 use Rattle.keeper.specs.declared.event.Telling.TheVariants.{Written}
-use Rattle.keeper.specs.Answers.{Gives, kept, as_told}
+use Rattle.keeper.specs.Answers.{Gives, written_out, as_told}
 use Rattle.keeper.specs.Playing.{StepsTo}
 use Rattle.keeper.specs.Own.{step_fits}
 use Rattle.keeper.proofs.Fitting.{other_size, short_out}
-use Rattle.keeper.proofs.Writing.{kept_few}
+use Rattle.keeper.proofs.Writing.{written_few}
 use Rattle.keeper.proofs.Room.{front_stands}
 use Rattle.batch.specs.Engine.{Heard}
 use Rattle.batch.specs.Own.{answer, guarded, StepBy, StepSays}
@@ -26,31 +26,31 @@ unfolding stepped as_told
 took w m h out r m₁ front₁ e u g =
     let f : step_fits m out ≡ true = grind (arith, nat_tests) in
     let ks = (as_told w (answer m h)).numbers in
-    let l : length ks ≤ 8192 = omega (arith, kept_few w (answer m h).act (answer m h).numbers, few m h) in
+    let l : length ks ≤ 8192 = omega (arith, written_few w (answer m h).act (answer m h).numbers, few m h) in
     rw f (record {
       act = g.act;
       after = g.after;
-      told = ap (λ (xs : List ℕ). xs ++ drop 8192 out) g.out ∙ front_stands 8192 ks out l u;
+      out = ap (λ (xs : List ℕ). xs ++ drop 8192 out) g.out ∙ front_stands 8192 ks out l u;
     })
 
 pub untook : (w : Telling) (m : List ℕ) (h : Heard) (out : List ℕ) → step_fits m out ≡ false → StepsTo (stepped w m h out) (Err Unfit) m out
 unfolding stepped
-untook w m h out f = rw f (record { act = refl; after = refl; told = refl })
+untook w m h out f = rw f (record { act = refl; after = refl; out = refl })
 
 pub ruleset fitting = (took, untook, other_size, short_out)
 
 -- a step of which all is written is the engine's
 says : (b : Bool) (m : List ℕ) (h : Heard) (out : List ℕ) (r : Result Act Reason) (m₁ out₁ : List ℕ) → step_fits m out ≡ b →
     StepsTo (stepped Written m h out) r m₁ out₁ → StepBy b m h out r m₁ out₁
-unfolding stepped as_told kept StepBy guarded
+unfolding stepped as_told written_out StepBy guarded
 says true m h out r m₁ out₁ f = rw f (λ t. record {
   act = t.act;
-  memory = t.after;
-  told = t.told;
+  after = t.after;
+  out = t.out;
   own_step = λ q. rw q
       (ap₂ (λ (y : Result Act Reason) (z : List ℕ). record { memory = z; action = action_of y (answer m h).numbers }) (sym t.act) (sym t.after));
 })
-says false m h out r m₁ out₁ f = rw f (λ t. record { act = t.act; memory = t.after; told = t.told })
+says false m h out r m₁ out₁ f = rw f (λ t. record { act = t.act; after = t.after; out = t.out })
 
 pub written_says : (m : List ℕ) (h : Heard) (out : List ℕ) (r : Result Act Reason) (m₁ out₁ : List ℕ) → StepsTo (stepped Written m h out) r m₁ out₁ →
     StepSays m h out r m₁ out₁

@@ -11,7 +11,7 @@ use Rattle.keeper.specs.declared.event.Act.{Act}
 use Rattle.keeper.specs.declared.event.Reason.{Reason}
 use Rattle.keeper.specs.declared.event.Act.TheVariants.{Tells, Shows, Done}
 use Rattle.keeper.specs.declared.event.Telling.TheVariants.{PassedOver}
-use Rattle.keeper.specs.Answers.{kept, as_told}
+use Rattle.keeper.specs.Answers.{written_out, as_told}
 use Rattle.keeper.specs.Engine.{action_of, Ran, one_act}
 use Rattle.keeper.specs.Promise.{shown_for, RoundShown}
 use Rattle.keeper.specs.Sister.{ToldNeeded}
@@ -54,10 +54,10 @@ shown_front ts ss n ks out l = record {
 
 module _ (go : Go) (on : List ℕ → List ℕ → ℕ → Ending) (ts : List Told) (ss : List (List ℕ)) (m ks out : List ℕ) (s : ℕ) (h : Showing ts ss s out) where
   act_shows : (a : Result Act Reason) → CountedBy a ks →
-      ((ts₁ : List Told) (ss₁ : List (List ℕ)) (s₁ : ℕ) → Showing ts₁ ss₁ s₁ (fronted (kept PassedOver a ks) out) →
-      ShowsSo (go m ts₁ ss₁) (on m (fronted (kept PassedOver a ks) out) s₁)) →
-      ShowsSo (one_act go ts ss m (action_of a ks)) (by_act on m (fronted (kept PassedOver a ks) out) s a)
-  unfolding one_act by_act kept
+      ((ts₁ : List Told) (ss₁ : List (List ℕ)) (s₁ : ℕ) → Showing ts₁ ss₁ s₁ (fronted (written_out PassedOver a ks) out) →
+      ShowsSo (go m ts₁ ss₁) (on m (fronted (written_out PassedOver a ks) out) s₁)) →
+      ShowsSo (one_act go ts ss m (action_of a ks)) (by_act on m (fronted (written_out PassedOver a ks) out) s a)
+  unfolding one_act by_act written_out
   act_shows (Ok (Tells p n)) l f =
       rw (le-leb (length (take n ks)) 4096 (omega (arith, length-take n ks)))
       (f _ ss s (record { none = h.none; single = λ js e. absurd (not_none ts _ e) }))

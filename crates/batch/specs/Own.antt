@@ -49,17 +49,17 @@ abbrev pub own : Engine
 own = record { start = replicate 524288 0; step = guarded }
 
 -- the engine's step, told: the act with the numbers is its action, and the numbers stand at the front of the output
-pub record Taken (m : List ℕ) (h : Heard) (out : List ℕ) (r : Result Act Reason) (m₁ out₁ : List ℕ) : Type 0 where
+pub record Taken (m : List ℕ) (h : Heard) (out₀ : List ℕ) (r : Result Act Reason) (m₁ out₁ : List ℕ) : Type 0 where
   pub act : r ≡ (answer m h).act
-  pub memory : m₁ ≡ (answer m h).memory
-  pub told : out₁ ≡ fronted (answer m h).numbers out
+  pub after : m₁ ≡ (answer m h).memory
+  pub out : out₁ ≡ fronted (answer m h).numbers out₀
   pub own_step : small_heard h ≡ true → own.step m h ≡ record { memory = m₁; action = action_of r (answer m h).numbers }
 
 -- nothing changed
-pub record Untaken (m out : List ℕ) (r : Result Act Reason) (m₁ out₁ : List ℕ) : Type 0 where
+pub record Untaken (m out₀ : List ℕ) (r : Result Act Reason) (m₁ out₁ : List ℕ) : Type 0 where
   pub act : r ≡ Err Unfit
-  pub memory : m₁ ≡ m
-  pub told : out₁ ≡ out
+  pub after : m₁ ≡ m
+  pub out : out₁ ≡ out₀
 
 unfoldable pub StepBy : Bool → List ℕ → Heard → List ℕ → Result Act Reason → List ℕ → List ℕ → Type 0
 StepBy true m h out r m₁ out₁ = Taken m h out r m₁ out₁

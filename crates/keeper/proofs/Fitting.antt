@@ -10,12 +10,12 @@ use Rattle.keeper.specs.declared.event.Reason.TheVariants.{Unfit, Busy}
 use Rattle.row.specs.declared.board.Command.{Command}
 use Rattle.keeper.specs.declared.event.Telling.{Telling}
 use Rattle.keeper.specs.declared.event.Telling.TheVariants.{Written}
-use Rattle.keeper.specs.Answers.{Gives, quiet, ends, pending, kept, as_told}
+use Rattle.keeper.specs.Answers.{Gives, quiet, ends, pending, written_out, as_told}
 use Rattle.keeper.specs.Playing.{stepped, StepsTo}
 use Rattle.keeper.specs.Engine.{action_of}
 use Rattle.keeper.proofs.Size.{guarded_small}
 use Rattle.keeper.specs.Own.{said, went_on, answer, steps, step_fits, StepBy, StepSays}
-use Rattle.keeper.proofs.Writing.{kept_few}
+use Rattle.keeper.proofs.Writing.{written_few}
 use Rattle.keeper.proofs.Room.{few_answer, front_stands}
 
 pub other_size : (m out : List ℕ) → length m ≢ 524288 → step_fits m out ≡ false
@@ -31,31 +31,31 @@ unfolding stepped as_told
 took w m ev out r m₁ front₁ e h g =
     let f : step_fits m out ≡ true = grind (arith, nat_tests) in
     let ks = (as_told w (answer m ev)).numbers in
-    let l : length ks ≤ 8192 = omega (arith, kept_few w (answer m ev).act (answer m ev).numbers, few_answer m ev) in
+    let l : length ks ≤ 8192 = omega (arith, written_few w (answer m ev).act (answer m ev).numbers, few_answer m ev) in
     rw f (record {
       act = g.act;
       after = g.after;
-      told = ap (λ (xs : List ℕ). xs ++ drop 8192 out) g.out ∙ front_stands 8192 ks out l h;
+      out = ap (λ (xs : List ℕ). xs ++ drop 8192 out) g.out ∙ front_stands 8192 ks out l h;
     })
 
 pub untook : (w : Telling) (m : List ℕ) (ev : Event) (out : List ℕ) → step_fits m out ≡ false → StepsTo (stepped w m ev out) (Err Unfit) m out
 unfolding stepped
-untook w m ev out f = rw f (record { act = refl; after = refl; told = refl })
+untook w m ev out f = rw f (record { act = refl; after = refl; out = refl })
 
 pub ruleset fitting = (took, untook, other_size, short_out)
 
 -- a step of which all is written is the engine's
 says : (b : Bool) (m : List ℕ) (ev : Event) (out : List ℕ) (r : Result Act Reason) (m₁ out₁ : List ℕ) → step_fits m out ≡ b →
     StepsTo (stepped Written m ev out) r m₁ out₁ → StepBy b m ev out r m₁ out₁
-unfolding stepped as_told kept StepBy
+unfolding stepped as_told written_out StepBy
 says true m ev out r m₁ out₁ f = rw f (λ t. record {
   act = t.act;
-  memory = t.after;
-  told = t.told;
+  after = t.after;
+  out = t.out;
   own_step = λ q. guarded_small steps m ev q
       ∙ ap₂ (λ (y : Result Act Reason) (z : List ℕ). record { memory = z; action = action_of y (answer m ev).numbers }) (sym t.act) (sym t.after);
 })
-says false m ev out r m₁ out₁ f = rw f (λ t. record { act = t.act; memory = t.after; told = t.told })
+says false m ev out r m₁ out₁ f = rw f (λ t. record { act = t.act; after = t.after; out = t.out })
 
 pub written_says : (m : List ℕ) (ev : Event) (out : List ℕ) (r : Result Act Reason) (m₁ out₁ : List ℕ) → StepsTo (stepped Written m ev out) r m₁ out₁ →
     StepSays m ev out r m₁ out₁

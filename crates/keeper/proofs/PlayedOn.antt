@@ -12,7 +12,7 @@ abbrev pub to : Result Act Reason → List ℕ → List ℕ → Stepped
 to r m out = record { act = r; memory = m; out = out }
 
 pub stepped_to : (s : Stepped) (r : Result Act Reason) (m₁ out₁ : List ℕ) → StepsTo s r m₁ out₁ → s ≡ to r m₁ out₁
-stepped_to s r m₁ out₁ t = rw (t.act, t.after, t.told) refl
+stepped_to s r m₁ out₁ t = rw (t.act, t.after, t.out) refl
 
 -- what comes of an event is what comes of its answer
 pub plays_on : (m : List ℕ) (ev : Event) (out : List ℕ) (r : Result Act Reason) (m₁ out₁ : List ℕ) (s : ℕ) →
@@ -39,15 +39,15 @@ pub ends : (k : ℕ) (m : List ℕ) (a : Result Act Reason) (out : List ℕ) (s 
 unfolding by_act
 ends k m (Ok (Tells p n)) out s e = cc
 ends k m (Ok (Shows n)) out s e = cc
-ends k m (Ok Done) out s e = record { answer = refl; after = refl; told = refl }
-ends k m (Err w) out s e = record { answer = refl; after = refl; told = refl }
+ends k m (Ok Done) out s e = record { answer = refl; after = refl; out = refl }
+ends k m (Err w) out s e = record { answer = refl; after = refl; out = refl }
 
 at_last : (m : List ℕ) (a : Result Act Reason) (out : List ℕ) (s : ℕ) → Went (played_on 0 m a out s) (ended_by s a) m out
 unfolding by_act plays
-at_last m (Ok (Tells p n)) out s = record { answer = refl; after = refl; told = refl }
-at_last m (Ok (Shows n)) out s = record { answer = refl; after = refl; told = refl }
-at_last m (Ok Done) out s = record { answer = refl; after = refl; told = refl }
-at_last m (Err e) out s = record { answer = refl; after = refl; told = refl }
+at_last m (Ok (Tells p n)) out s = record { answer = refl; after = refl; out = refl }
+at_last m (Ok (Shows n)) out s = record { answer = refl; after = refl; out = refl }
+at_last m (Ok Done) out s = record { answer = refl; after = refl; out = refl }
+at_last m (Err e) out s = record { answer = refl; after = refl; out = refl }
 
 pub last_ends : (k : ℕ) (m : List ℕ) (a : Result Act Reason) (out : List ℕ) (s : ℕ) → k ≡ 0 → Went (played_on k m a out s) (ended_by s a) m out
 last_ends k m a out s e = subst (λ (x : ℕ). Went (played_on x m a out s) (ended_by s a) m out) (sym e) (at_last m a out s)

@@ -1,18 +1,18 @@
 -- Answers of the keeper.
 --
---   Answer           what a step answers, the memory after it, and the numbers told or shown
---   kept w a ks      the numbers ks that go with the act or reason a; none, if they are told and what is told is passed over
---   as_told w a      the answer a with the numbers that are written
---   Gives a out      what is answered is the answer a: the act or the reason, the memory after it, and the numbers at the front of the output
---   Ended            an answer with no numbers; Ends: what is answered is that
---   quiet e          such an answer
---   ends a m         the act or reason a and the memory m
---   refuses m e      refused by the board
---   pending m        what is still to come of the last command: 0 nothing, 1 that it's done, 2 that it's refused, since it would go round,
---                    3 more of the row
---   leaves_pending   the memory with something still to come
---   still_to_come m  what is, by its name; noted: the memory with that noted
---   by_result        one or another, by an operation's result
+--   Answer             what a step answers, the memory after it, and the numbers told or shown
+--   written_out w a ks the numbers ks that go with the act or reason a; none, if they are told and what is told is passed over
+--   as_told w a        the answer a with the numbers that are written to the output
+--   Gives a out        what is answered is the answer a: the act or the reason, the memory after it, and the numbers at the front of the output
+--   Ended              an answer with no numbers; Ends: what is answered is that
+--   quiet e            such an answer
+--   ends a m           the act or reason a and the memory m
+--   refuses m e        refused by the board
+--   pending m          what is still to come of the last command: 0 nothing, 1 that it's done, 2 that it's refused, since it would go round,
+--                      3 more of the row
+--   leaves_pending     the memory with something still to come
+--   still_to_come m    what is, by its name; noted: the memory with that noted
+--   by_result          one or another, by an operation's result
 use Rattle.std.specs.Prelude.{◌≡◌, ℕ, cond, List, [], ◌++◌, length, drop, Some, None, Option, Ok, Err, Result, ◌==◌}
 use Rattle.row.specs.declared.board.Refusal.{Refusal}
 use Rattle.row.specs.Columns.{cell, written}
@@ -35,15 +35,15 @@ pub record Ended : Type 0 where
   pub act : Result Act Reason
   pub memory : List ℕ
 
-unfoldable pub kept : Telling → Result Act Reason → List ℕ → List ℕ
-kept Written a ks = ks
-kept PassedOver (Ok (Tells p n)) ks = []
-kept PassedOver (Ok (Shows n)) ks = ks
-kept PassedOver (Ok ActDone) ks = ks
-kept PassedOver (Err e) ks = ks
+unfoldable pub written_out : Telling → Result Act Reason → List ℕ → List ℕ
+written_out Written a ks = ks
+written_out PassedOver (Ok (Tells p n)) ks = []
+written_out PassedOver (Ok (Shows n)) ks = ks
+written_out PassedOver (Ok ActDone) ks = ks
+written_out PassedOver (Err e) ks = ks
 
 unfoldable pub as_told : Telling → Answer → Answer
-as_told w a = record { act = a.act; memory = a.memory; numbers = kept w a.act a.numbers }
+as_told w a = record { act = a.act; memory = a.memory; numbers = written_out w a.act a.numbers }
 
 pub record Gives (a : Answer) (out₀ : List ℕ) (r : Result Act Reason) (m₁ out₁ : List ℕ) : Type 0 where
   pub act : r ≡ a.act

@@ -73,17 +73,17 @@ abbrev pub step_fits : List ℕ → List ℕ → Bool
 step_fits m out = length m == 524288 && nat_le 8192 (length out)
 
 -- the engine's step, told: the act with the numbers is its action, and the numbers stand at the front of the output
-pub record Taken (m : List ℕ) (ev : Event) (out : List ℕ) (r : Result Act Reason) (m₁ out₁ : List ℕ) : Type 0 where
+pub record Taken (m : List ℕ) (ev : Event) (out₀ : List ℕ) (r : Result Act Reason) (m₁ out₁ : List ℕ) : Type 0 where
   pub act : r ≡ (answer m ev).act
-  pub memory : m₁ ≡ (answer m ev).memory
-  pub told : out₁ ≡ (answer m ev).numbers ++ drop (length (answer m ev).numbers) out
+  pub after : m₁ ≡ (answer m ev).memory
+  pub out : out₁ ≡ (answer m ev).numbers ++ drop (length (answer m ev).numbers) out₀
   pub own_step : small_event ev ≡ true → own.step m ev ≡ record { memory = m₁; action = action_of r (answer m ev).numbers }
 
 -- nothing changed
-pub record Untaken (m out : List ℕ) (r : Result Act Reason) (m₁ out₁ : List ℕ) : Type 0 where
+pub record Untaken (m out₀ : List ℕ) (r : Result Act Reason) (m₁ out₁ : List ℕ) : Type 0 where
   pub act : r ≡ Err Unfit
-  pub memory : m₁ ≡ m
-  pub told : out₁ ≡ out
+  pub after : m₁ ≡ m
+  pub out : out₁ ≡ out₀
 
 unfoldable pub StepBy : Bool → List ℕ → Event → List ℕ → Result Act Reason → List ℕ → List ℕ → Type 0
 StepBy true m ev out r m₁ out₁ = Taken m ev out r m₁ out₁

@@ -1,18 +1,18 @@
 -- A command, played to its end, as the code goes.
 --
---   fronted ks out     the output with these numbers at its front
---   Stepped            a step's answer, the memory and the output after it
+--   fronted ks out      the output with these numbers at its front
+--   Stepped             a step's answer, the memory and the output after it
 --   stepped w m ev out  a step on memory and output: the engine's, with its numbers at the front of the output, but for those told if they are passed over;
---                      where the memory or the output doesn't fit, refused, and nothing is changed
---   StepsTo s          what came of it is the step s
---   Ending             how a command went: what is answered of it, the memory and the output after it
---   Went e             what came of it is the ending e
---   by_act go          what comes of one answer: go on, or be at the end; what is told is passed over, and of what is shown the count is noted
---   plays n            an event and what comes of it, in at most n steps; if they aren't enough, it is refused
---   shown_then s a     how many numbers it has shown after the answer a, if it had shown s before; none, if a is its end
---   ended_by s a       how it ended, if it had shown s numbers before its last answer a
---   played_on n        an answer and what comes of it, in at most n more steps
---   played m c out     the command c, in at most three steps
+--                       where the memory or the output doesn't fit, refused, and nothing is changed
+--   StepsTo s           what came of it is the step s
+--   Ending              how a command went: what is answered of it, the memory and the output after it
+--   Went e              what came of it is the ending e
+--   by_act go           what comes of one answer: go on, or be at the end; what is told is passed over, and of what is shown the count is noted
+--   plays n             an event and what comes of it, in at most n steps; if they aren't enough, it is refused
+--   shown_then s a      how many numbers it has shown after the answer a, if it had shown s before; none, if a is its end
+--   ended_by s a        how it ended, if it had shown s numbers before its last answer a
+--   played_on n         an answer and what comes of it, in at most n more steps
+--   played m c out      the command c, in at most three steps
 use Rattle.std.specs.Prelude.{◌≡◌, ℕ, zero, suc, cond, List, ◌++◌, length, drop, Some, None, Option, Ok, Err, Result}
 use Rattle.row.specs.declared.board.Command.{Command}
 use Rattle.keeper.specs.declared.event.Event.{Event}
@@ -44,7 +44,7 @@ stepped w m ev out =
 pub record StepsTo (s : Stepped) (r : Result Act Reason) (m₁ out₁ : List ℕ) : Type 0 where
   pub act : r ≡ s.act
   pub after : m₁ ≡ s.memory
-  pub told : out₁ ≡ s.out
+  pub out : out₁ ≡ s.out
 
 pub record Ending : Type 0 where
   pub answer : Played
@@ -54,7 +54,7 @@ pub record Ending : Type 0 where
 pub record Went (e : Ending) (r : Played) (m₁ out₁ : List ℕ) : Type 0 where
   pub answer : r ≡ e.answer
   pub after : m₁ ≡ e.memory
-  pub told : out₁ ≡ e.out
+  pub out : out₁ ≡ e.out
 
 unfoldable pub by_act : (List ℕ → List ℕ → ℕ → Ending) → List ℕ → List ℕ → ℕ → Result Act Reason → Ending
 by_act go m out s (Ok (Tells p n)) = go m out s

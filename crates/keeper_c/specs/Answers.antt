@@ -1,7 +1,7 @@
 -- What the functions for C answer.
 --
 --   ended o s      the answer of what ended by the outcome o and has shown s numbers
---   CameTo e       what came of it is the ending e, told as C is told it
+--   CameTo e       what came of it is the ending e, as C is told it
 use Rattle.std.specs.Prelude.{◌≡◌, ℕ, true, false, List, Ok, Err, Result}
 use Rattle.keeper.specs.declared.event.Reason.{Reason}
 use Rattle.keeper.specs.Engine.{reason_number}
@@ -15,4 +15,4 @@ ended (Err e) s = record { done = false; reason = reason_number e; shown = s }
 pub record CameTo (e : Ending) (r : KeeperAnswer) (m₁ out₁ : List ℕ) : Type 0 where
   pub answer : r ≡ ended e.answer.outcome e.answer.shown
   pub after : m₁ ≡ e.memory
-  pub told : out₁ ≡ e.out
+  pub out : out₁ ≡ e.out

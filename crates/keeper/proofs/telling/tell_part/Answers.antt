@@ -1,7 +1,7 @@
 use Rattle.std.proofs.Common.{◌+◌, ◌≤◌, length, Ok, sym, ◌∙◌, subst, arith}
 use Rattle.keeper.specs.declared.event.Telling.{Telling}
 use Rattle.keeper.specs.declared.event.Act.TheVariants.{Tells}
-use Rattle.keeper.specs.Answers.{kept, as_told, Gives}
+use Rattle.keeper.specs.Answers.{written_out, as_told, Gives}
 use Rattle.keeper.specs.Telling.{told_part}
 use Rattle.keeper.proofs.TellingParts.{told_middle}
 use Rattle.keeper.proofs.telling.tell_part.Goals.{in-Written, in-PassedOver}
@@ -16,7 +16,7 @@ overflow_add-first c =
     omega arith
 
 pub returns : goal.returns
-unfolding told_part kept as_told
+unfolding told_part written_out as_told
 returns c =
     let m = c.args.memory.now in
     let out = c.args.out.now in
