@@ -12,12 +12,11 @@
 use Rattle.std.specs.Prelude.{ℕ, ◌-◌, min, cond, List, [], length, take, Ok, Option, nat_le}
 use Rattle.row.specs.declared.board.Link.{Link}
 use Rattle.row.specs.declared.board.Refusal.TheVariants.{Missing, Exists, Full}
-use Rattle.row.specs.Columns.{written}
-use Rattle.row.specs.Layout.{tally}
 use Rattle.row.specs.Lookup.{given}
 use Rattle.links.specs.Layout.{live}
 use Rattle.keeper.specs.declared.event.Act.TheVariants.{Shows, Done}
-use Rattle.keeper.specs.Answers.{Answer, quiet, ends, refuses, leaves_pending}
+use Rattle.keeper.specs.declared.pending.Pending.TheVariants.{Round, More}
+use Rattle.keeper.specs.Answers.{Answer, quiet, ends, refuses, noted}
 use Rattle.keeper.specs.Own.{went_on}
 use Rattle.batch.specs.declared.seating.Span.{Span}
 use Rattle.batch.specs.Checking.{all_found, repeated, span}
@@ -25,7 +24,7 @@ use Rattle.batch.specs.Joining.{Tried, tried, taken_out}
 use Rattle.batch.specs.Seating.{saved, reseated}
 
 unfoldable pub noting : List ℕ → Span → List ℕ
-noting m s = written (written (leaves_pending m 3) tally 5 s.low) tally 6 s.high
+noting m s = noted m (More s.low s.high)
 
 abbrev pub told_span : List ℕ → Span → Answer
 told_span m s = went_on (noting m s)
@@ -41,7 +40,7 @@ brought m ls o =
     cond (nat_le (live m) 65536) (given o (quiet (ends (Ok Done) m)) (λ s. told_span m s)) (quiet (refuses (undone m ls o) Full))
 
 abbrev pub closed : List ℕ → List Link → Option Span → List ℕ → Answer
-closed m ls o ks = record { act = Ok (Shows (length ks)); memory = leaves_pending (undone m ls o) 2; numbers = ks }
+closed m ls o ks = record { act = Ok (Shows (length ks)); memory = noted (undone m ls o) Round; numbers = ks }
 
 unfoldable pub by_trial : Tried → List Link → Option Span → Answer
 by_trial t ls o = given t.way (brought t.memory ls o) (closed t.memory (take t.count ls) o)

@@ -17,7 +17,8 @@ use Rattle.links.specs.Entries.{found as entry_found}
 use Rattle.links.specs.Building.{inserted}
 use Rattle.links.specs.Removing.{removed}
 use Rattle.keeper.specs.declared.event.Act.TheVariants.{Shows, Done}
-use Rattle.keeper.specs.Answers.{Answer, Ended, quiet, ends, refuses, leaves_pending, by_result}
+use Rattle.keeper.specs.declared.pending.Pending.TheVariants.{Round}
+use Rattle.keeper.specs.Answers.{Answer, Ended, quiet, ends, refuses, noted, by_result}
 use Rattle.keeper.specs.Reordering.{reordered}
 
 unfoldable pub slots_found : List ℕ → Link → Option Link
@@ -32,7 +33,7 @@ unfoldable pub put_in : List ℕ → Link → Ended
 put_in m x = cond (nat_le 65536 (live m)) (refuses m Full) (ends (Ok Done) (inserted m x))
 
 abbrev pub shown_itself : List ℕ → ℕ → Answer
-shown_itself m k = record { act = Ok (Shows 1); memory = leaves_pending m 2; numbers = k ∷ [] }
+shown_itself m k = record { act = Ok (Shows 1); memory = noted m Round; numbers = k ∷ [] }
 
 unfoldable pub linked : List ℕ → Link → Answer
 linked m l =

@@ -29,7 +29,8 @@ use Rattle.keeper.specs.declared.event.Act.{Act}
 use Rattle.keeper.specs.declared.event.Act.TheVariants.{Shows, Done}
 use Rattle.keeper.specs.Engine.{action_of, Step, Engine}
 use Rattle.keeper.specs.Sized.{small_event, guarded}
-use Rattle.keeper.specs.Answers.{Answer, Ended, quiet, ends, refuses, pending, leaves_pending, by_result}
+use Rattle.keeper.specs.declared.pending.Pending.TheVariants.{Nothing, Done as DonePending}
+use Rattle.keeper.specs.Answers.{Answer, Ended, quiet, ends, refuses, pending, noted, by_result}
 use Rattle.keeper.specs.Telling.{told_part}
 use Rattle.keeper.specs.Linking.{linked, unlinked}
 
@@ -43,7 +44,7 @@ abbrev pub shown_places : List ℕ → ℕ → ℕ → Answer
 shown_places m a b =
     given (place_found m a) (quiet (refuses m Missing)) (λ p.
     given (place_found m b) (quiet (refuses m Missing)) (λ q.
-    record { act = Ok (Shows 2); memory = leaves_pending m 1; numbers = p ∷ q ∷ [] }))
+    record { act = Ok (Shows 2); memory = noted m DonePending; numbers = p ∷ q ∷ [] }))
 
 unfoldable pub said : List ℕ → Command → Answer
 said m (Comes k) = quiet (ended (came m k).answer (came m k).memory)
@@ -54,7 +55,7 @@ said m (Places a b) = shown_places m a b
 
 abbrev pub finished : List ℕ → Ended
 finished m =
-    ends (cond (pending m == 1) (Ok Done) (cond (pending m == 2) (Err (Board Cycle)) (Err Idle))) (leaves_pending m 0)
+    ends (cond (pending m == 1) (Ok Done) (cond (pending m == 2) (Err (Board Cycle)) (Err Idle))) (noted m Nothing)
 
 unfoldable pub went_on : List ℕ → Answer
 went_on m = cond (pending m == 3) (told_part m (cell m tally 5) (cell m tally 6)) (quiet (finished m))

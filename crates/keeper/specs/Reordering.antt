@@ -16,7 +16,8 @@ use Rattle.search.specs.Hunt.{meeting}
 use Rattle.search.specs.Settle.{forgotten, settled}
 use Rattle.search.specs.Way.{way}
 use Rattle.keeper.specs.declared.event.Act.TheVariants.{Shows}
-use Rattle.keeper.specs.Answers.{Answer, quiet, refuses, leaves_pending}
+use Rattle.keeper.specs.declared.pending.Pending.TheVariants.{Round}
+use Rattle.keeper.specs.Answers.{Answer, quiet, refuses, noted}
 use Rattle.keeper.specs.Telling.{told_part}
 
 unfoldable pub round_cards : List ℕ → Link → Link → List ℕ
@@ -24,7 +25,7 @@ round_cards m x y = map (cell m ids) (way (cell m via) 8192 x y)
 
 unfoldable pub shown_round : List ℕ → Link → Link → Answer
 shown_round m x y =
-    record { act = Ok (Shows (length (round_cards m x y))); memory = leaves_pending (forgotten m) 2; numbers = round_cards m x y }
+    record { act = Ok (Shows (length (round_cards m x y))); memory = noted (forgotten m) Round; numbers = round_cards m x y }
 
 unfoldable pub moved : List ℕ → Link → ℕ → ℕ → Answer
 moved m x i j =

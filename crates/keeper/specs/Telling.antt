@@ -4,16 +4,17 @@
 --   left_to_tell       what is still to come of a row that is told up to a place, and is to be told up to another
 --   told_part m i j    the cards from the place i on, below j, told, at most 4,096 of them
 use Rattle.std.specs.Prelude.{ℕ, ◌+◌, ◌-◌, min, cond, List, map, take, drop, Ok, nat_lt}
-use Rattle.row.specs.Columns.{cell, written}
-use Rattle.row.specs.Layout.{tally, ids, slots}
+use Rattle.row.specs.Columns.{cell}
+use Rattle.row.specs.Layout.{ids, slots}
 use Rattle.keeper.specs.declared.event.Act.TheVariants.{Tells}
-use Rattle.keeper.specs.Answers.{Answer, leaves_pending}
+use Rattle.keeper.specs.declared.pending.Pending.TheVariants.{Done, More}
+use Rattle.keeper.specs.Answers.{Answer, noted}
 
 unfoldable pub middle : List ℕ → ℕ → ℕ → List ℕ
 middle m p n = map (cell m ids) (take n (drop (slots.base + p) m))
 
 unfoldable pub left_to_tell : List ℕ → ℕ → ℕ → List ℕ
-left_to_tell m i j = cond (nat_lt i j) (written (written (leaves_pending m 3) tally 5 i) tally 6 j) (leaves_pending m 1)
+left_to_tell m i j = cond (nat_lt i j) (noted m (More i j)) (noted m Done)
 
 -- from a place on, so many, up to a place
 abbrev pub telling : List ℕ → ℕ → ℕ → ℕ → Answer
