@@ -3,28 +3,28 @@
 use row::Column;
 
 // How many links may be said at once.
-pub const BATCH: usize = 256;
+pub(crate) const BATCH: usize = 256;
 
 // By place: a slot, of the row as it was before several links were tried, or of the row that is made anew.
-pub const SPARE: Column = Column {
+pub(crate) const SPARE: Column = Column {
     base: 478568,
     size: 8192,
 };
 
 // By slot: how many links come into it from cards that haven't come yet.
-pub const WAITS: Column = Column {
+pub(crate) const WAITS: Column = Column {
     base: 486832,
     size: 8192,
 };
 
 // By slot: how many links go out of it.
-pub const LEAVES: Column = Column {
+pub(crate) const LEAVES: Column = Column {
     base: 495096,
     size: 8192,
 };
 
 // The numbers of the cards, in their order.
-pub const NUMBERS: Column = Column {
+pub(crate) const NUMBERS: Column = Column {
     base: 503360,
     size: 8192,
 };

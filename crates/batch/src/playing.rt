@@ -11,8 +11,8 @@ use crate::stepping::step_as;
 use keeper::{Played, Telling, play_on};
 use row::Link;
 
-// Says what the event says, and goes on until it's at its end. Three steps are enough, unless the memory isn't a keeper's. The batch is read only for
-// `Several`. The steps are those of the engine that meets the promise; what is played is then done or refused as the board says, and
+// Says what the event says, and goes on until it's at its end; what is told is passed over. Three steps are enough, unless the memory isn't a keeper's. The
+// batch is read only for `Several`. The steps are those of the engine that meets the promise; what is played is then done or refused as the board says, and
 // the numbers shown stand at the front of the output.
 #[tactic(auto, using(crate::proofs::PlayedOn::plays_first, crate::proofs::Wholly::whole_in_own, crate::proofs::PlayedRun::plays_right))]
 pub fn play(memory: &mut [u64], event: Event, batch: &[Link], out: &mut [u64]) -> Played

@@ -12,7 +12,7 @@ use crate::tidying::tidy;
 use keeper::{Act, Event, LINKS, Memory, Output, Pending, Reason, Telling, hear};
 use row::{Link, Refusal};
 
-// Tells the part of the row.
+// Tells the part of the row: it is noted as still to come, and the keeper goes on with it.
 #[tactic(auto, unfolding(keeper::specs::Own::answer, crate::specs::Saying::noting))]
 fn tell_span(
     memory: &mut Memory,

@@ -23,14 +23,14 @@ pub(crate) struct Span {
 
 impl Span {
     // The first n places.
-    pub fn first(n: u64) -> Span
+    pub(crate) fn first(n: u64) -> Span
         ensures { result ≡ record { low = 0; high = n } }
     {
         Span { low: 0, high: n }
     }
 
     // Puts the slots at the places aside.
-    pub fn save(self, memory: &mut [u64])
+    pub(crate) fn save(self, memory: &mut [u64])
         ensures { memory.new ≡ saved (min self.high 8192 - self.low) memory.old self.low }
     {
         fill(
@@ -43,7 +43,7 @@ impl Span {
 
     // Gives the places to the slots that were put aside for them.
     #[tactic(auto, using(crate::proofs::PlaceByPlace::turns), unfolding(crate::specs::Seating::reseated))]
-    pub fn reseat(self, memory: &mut [u64])
+    pub(crate) fn reseat(self, memory: &mut [u64])
         ensures { memory.new ≡ reseated (min self.high 8192 - self.low) memory.old self.low }
     {
         for place in self.low..self.high.min(CARDS) {

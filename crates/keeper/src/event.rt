@@ -44,15 +44,15 @@ impl From<Reason> for u64 {
     }
 }
 
-// Whether the cards that are told stand at the front of the output, or are passed over: who plays a command to its end has no use for them.
+// Whether the cards that are told are written to the output, or passed over: who plays a command to its end has no use for them.
 #[derive(Clone, Copy, Debug, PartialEq, Eq)]
 pub enum Telling {
     Written,
     PassedOver,
 }
 
-// What the keeper answers, if it doesn't refuse. It tells the row: from a place on so many cards; or it shows so many numbers. The cards and the numbers
-// stand at the front of the lent output. Then the command is done.
+// What the keeper answers, if it doesn't refuse: it tells the row, from a place on so many cards; or it shows so many numbers; or the command is done. The
+// numbers stand at the front of the lent output, and so do the cards, unless what is told is passed over.
 #[derive(Clone, Copy, Debug, PartialEq, Eq)]
 pub enum Act {
     Tells(u64, u64),

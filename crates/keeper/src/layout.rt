@@ -1,4 +1,4 @@
-// What the keeper has of its own in the lent memory: single numbers in TALLY.
+// How much is lent to the keeper, how much there may be, and what it has of its own in the lent memory: single numbers in TALLY.
 
 // How many numbers the memory has, and how many the lent output has to have room for.
 pub const MEMORY: usize = 524288;
@@ -14,11 +14,11 @@ pub type Output = [u64; OUTPUT];
 // How many links there may be, and how many cards are told at once.
 pub const LINKS: u64 = 65536;
 
-pub const TOLD: u64 = 4096;
+pub(crate) const TOLD: u64 = 4096;
 
 // What is still to come of the last command, and the places from which on, and below which, more is to be told.
-pub const PENDING: u64 = 4;
+pub(crate) const PENDING: u64 = 4;
 
-pub const MORE_FROM: u64 = 5;
+pub(crate) const MORE_FROM: u64 = 5;
 
-pub const MORE_TO: u64 = 6;
+pub(crate) const MORE_TO: u64 = 6;

@@ -54,7 +54,7 @@ fn end(answer: Result<Act, Reason>, shown: u64) -> Played
     }
 }
 
-// Goes on from a first answer up to the end of what was said. Two more steps are enough, unless the memory isn't a keeper's.
+// Goes on from a first answer up to the end of what was said, and passes over what is told. Two more steps are enough, unless the memory isn't a keeper's.
 pub fn play_on(memory: &mut [u64], first: Result<Act, Reason>, out: &mut [u64]) -> Played
     ensures { Went (played_on 2 memory.old first out.old 0) result memory.new out.new }
 {
@@ -70,8 +70,8 @@ pub fn play_on(memory: &mut [u64], first: Result<Act, Reason>, out: &mut [u64]) 
     end(answer, shown)
 }
 
-// Says a command, and goes on until it's at its end. The steps are those of the engine that meets the promise; what is played is then done or refused as
-// the board says.
+// Says a command, and goes on until it's at its end; what is told is passed over. The steps are those of the engine that meets the promise; what is played is
+// then done or refused as the board says.
 pub fn play(memory: &mut [u64], command: Command, out: &mut [u64]) -> Played
     ensures went { Went (played memory.old command out.old) result memory.new out.new }
     ensures whole { Whole own }

@@ -85,7 +85,7 @@ fn go_on(memory: &mut Memory, telling: Telling, out: &mut Output) -> Result<Act,
     }
 }
 
-// The answer to an event, from a memory and to an output that fit; what is told may be passed over.
+// The answer to an event, where memory and output fit; what is told may be passed over.
 #[tactic(auto, using(crate::proofs::Writing::writing), unfolding(crate::specs::Answers::as_told, crate::specs::Own::answer, crate::specs::Answers::still_to_come))]
 pub fn hear(
     memory: &mut Memory,
