@@ -2,9 +2,9 @@
  * A keeper of a board: cards stand in one row, and of two cards it is said that the one has to stand before the other. The row keeps all that was said,
  * with as little of it moved as README.md says; what can't be kept is refused, and why is shown.
  *
- * The caller lends all memory: KEEPER_MEMORY numbers, all 0 at first, which are the board, and KEEPER_OUTPUT numbers or more for what is shown. The two
- * don't overlap. Nothing is allocated, nothing is kept elsewhere, and each function returns whatever stands in the memory. Calls for the same memory
- * come one after the other; calls for different ones may come from different threads.
+ * The caller lends all memory: KEEPER_MEMORY numbers, all 0 at first, which are the board, and KEEPER_OUTPUT numbers or more for what is shown. What is
+ * lent in one call doesn't overlap, and no pointer is null. Nothing is allocated, nothing is kept elsewhere, and each function returns whatever stands in
+ * the memory. Calls for the same memory come one after the other; calls for different ones may come from different threads.
  *
  * Link with libkeeper_c.a.
  */
