@@ -1,5 +1,6 @@
 #!/usr/bin/env bash
-# The programs on bad input and good: what they print, what they say on standard error, and their status. They are proved and built first.
+# The programs on bad input and good, and the functions for C: what is printed, what is said on standard error, and the status. They are proved and built
+# first.
 set -u
 cd "$(dirname "$0")/.." || exit 1
 # build PROGRAM [ARGS..]: proves and builds it, and runs it once.
@@ -18,7 +19,8 @@ passed=0
 failed=0
 out=$(mktemp)
 err=$(mktemp)
-trap 'rm -f "$out" "$err"' EXIT
+in_c=$(mktemp)
+trap 'rm -f "$out" "$err" "$in_c"' EXIT
 
 # expect NAME STATUS STDOUT STDERR: compares the last run, STDOUT byte by byte; STDERR is the one line that is said there, without the program's name,
 # or 'none'.
@@ -122,6 +124,12 @@ expect 'beside: a seed that is no number' 1 '' 'the seed has to be a number belo
 run beside '' 1 -2
 expect 'beside: so many sayings as there are not' 1 '' 'the number of sayings has to be a number below 2^64; see beside --help'
 helps beside 'SEED COUNT'
+
+(cd crates/keeper_c && rt lib) >/dev/null 2>&1 &&
+  "${CC:-cc}" -std=c11 -Wall -Wextra -Werror -I include tests/keeper.c crates/keeper_c/out/libkeeper_c.a -o "$in_c" >"$out" 2>"$err" &&
+  "$in_c" <crates/board/stdin >"$out" 2>"$err"
+status=$?
+expect 'keeper.c: the sayings of board' 0 "$(cat crates/board/stdout)"$'\n' none
 
 echo "$passed passed, $failed failed"
 [ "$failed" = 0 ]
