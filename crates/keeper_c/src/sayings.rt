@@ -4,34 +4,48 @@ ghost use Rattle.row.specs.Board.{◌⟶◌};
 ghost use Rattle.row.specs.declared.board.Command.TheVariants.{Comes, Goes, Link as Links, Unlink as Unlinks, Places};
 ghost use Rattle.row.specs.Layout.{count};
 ghost use Rattle.row.specs.Telling.{told, told_count};
-ghost use Rattle.keeper.specs.Own.{own};
-ghost use Rattle.keeper.specs.Playing.{played};
-ghost use Rattle.keeper.specs.PlayLaws.{Plays};
-ghost use Rattle.keeper.specs.Sister.{WholeIn};
+ghost use Rattle.batch.specs.Engine.{said, one as commanded};
+ghost use Rattle.batch.specs.Own.{own};
+ghost use Rattle.batch.specs.PlayLaws.{Plays, PlaysShows};
+ghost use Rattle.batch.specs.Playing.{played};
+ghost use Rattle.batch.specs.Promise.{WholeIn};
 ghost use Rattle.keeper_c.specs.Answers.{CameTo};
 
 use crate::answer::KeeperAnswer;
-use keeper::{play, read_row};
+use batch::{Event, play};
+use keeper::read_row;
 use row::{Command, Link};
+
+// A command is said to the engine that takes several links at once too, so that all functions are of one engine.
+fn say(memory: &mut [u64], command: Command, out: &mut [u64]) -> KeeperAnswer
+    ensures went { CameTo (played memory.old (said (commanded command)) out.old) result memory.new out.new }
+    ensures whole { WholeIn 3 own }
+    ensures right { Plays }
+    ensures shows { PlaysShows }
+{
+    KeeperAnswer::of(play(memory, Event::Said(command), &[], out))
+}
 
 // A card comes, at the end of the row.
 #[unsafe(no_mangle)]
 pub extern "C" fn keeper_comes(memory: &mut [u64], card: u64, out: &mut [u64]) -> KeeperAnswer
-    ensures went { CameTo (played memory.old (Comes card) out.old) result memory.new out.new }
-    ensures firmer { WholeIn 3 own }
+    ensures went { CameTo (played memory.old (said (commanded (Comes card))) out.old) result memory.new out.new }
+    ensures whole { WholeIn 3 own }
     ensures right { Plays }
+    ensures shows { PlaysShows }
 {
-    KeeperAnswer::of(play(memory, Command::Comes(card), out))
+    say(memory, Command::Comes(card), out)
 }
 
 // A card goes, and its links with it.
 #[unsafe(no_mangle)]
 pub extern "C" fn keeper_goes(memory: &mut [u64], card: u64, out: &mut [u64]) -> KeeperAnswer
-    ensures went { CameTo (played memory.old (Goes card) out.old) result memory.new out.new }
-    ensures firmer { WholeIn 3 own }
+    ensures went { CameTo (played memory.old (said (commanded (Goes card))) out.old) result memory.new out.new }
+    ensures whole { WholeIn 3 own }
     ensures right { Plays }
+    ensures shows { PlaysShows }
 {
-    KeeperAnswer::of(play(memory, Command::Goes(card), out))
+    say(memory, Command::Goes(card), out)
 }
 
 // `from` has to stand before `to`.
@@ -42,11 +56,12 @@ pub extern "C" fn keeper_link(
     to: u64,
     out: &mut [u64],
 ) -> KeeperAnswer
-    ensures went { CameTo (played memory.old (Links (from ⟶ to)) out.old) result memory.new out.new }
-    ensures firmer { WholeIn 3 own }
+    ensures went { CameTo (played memory.old (said (commanded (Links (from ⟶ to)))) out.old) result memory.new out.new }
+    ensures whole { WholeIn 3 own }
     ensures right { Plays }
+    ensures shows { PlaysShows }
 {
-    KeeperAnswer::of(play(memory, Command::Link(Link { from, to }), out))
+    say(memory, Command::Link(Link { from, to }), out)
 }
 
 // `from` needn't stand before `to`.
@@ -57,11 +72,12 @@ pub extern "C" fn keeper_unlink(
     to: u64,
     out: &mut [u64],
 ) -> KeeperAnswer
-    ensures went { CameTo (played memory.old (Unlinks (from ⟶ to)) out.old) result memory.new out.new }
-    ensures firmer { WholeIn 3 own }
+    ensures went { CameTo (played memory.old (said (commanded (Unlinks (from ⟶ to)))) out.old) result memory.new out.new }
+    ensures whole { WholeIn 3 own }
     ensures right { Plays }
+    ensures shows { PlaysShows }
 {
-    KeeperAnswer::of(play(memory, Command::Unlink(Link { from, to }), out))
+    say(memory, Command::Unlink(Link { from, to }), out)
 }
 
 // How many cards stand before each of the two.
@@ -72,11 +88,12 @@ pub extern "C" fn keeper_places(
     other: u64,
     out: &mut [u64],
 ) -> KeeperAnswer
-    ensures went { CameTo (played memory.old (Places one other) out.old) result memory.new out.new }
-    ensures firmer { WholeIn 3 own }
+    ensures went { CameTo (played memory.old (said (commanded (Places one other))) out.old) result memory.new out.new }
+    ensures whole { WholeIn 3 own }
     ensures right { Plays }
+    ensures shows { PlaysShows }
 {
-    KeeperAnswer::of(play(memory, Command::Places(one, other), out))
+    say(memory, Command::Places(one, other), out)
 }
 
 // Writes the row to the front of `row`; says how many cards it has.
