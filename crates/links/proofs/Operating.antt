@@ -38,7 +38,7 @@ tabled_roomy m t b = elim (cases_lt (end m) 67584) [
 
 tabled_settled : (m : List ℕ) → Tabled m → Tabled (settled m) × (edges (settled m) ≡ edges m)
 unfolding settled
-tabled_settled m t = elim (cases_Bool (ltb (live m) (end m - live m - 1024))) [
+tabled_settled m t = elim (cases_Bool (ltb (live m) (end m - live m - 4096))) [
   | inl h ↦ let r = rebuilds m t in rw h (r.0, r.1)
   | inr h ↦ rw h (t, refl)
 ]

@@ -19,7 +19,7 @@ use Rattle.links.specs.Entries.{found, buried}
 use Rattle.links.specs.Building.{rebuilt}
 
 unfoldable pub settled : List ℕ → List ℕ
-settled m = cond (nat_lt (live m) (end m - live m - 1024)) (rebuilt m) m
+settled m = cond (nat_lt (live m) (end m - live m - 4096)) (rebuilt m) m
 
 unfoldable pub removed : List ℕ → Link → Outcome
 removed m x = given (found m x) (refused m Missing) (λ l. record { answer = Ok l; memory = settled (buried m l) })

@@ -6,7 +6,7 @@ use row::{CARDS, Column, Family};
 pub const ENTRIES: u64 = 67584;
 
 // The dead may outnumber the living by so many, before the table is built again.
-pub const SLACK: u64 = 1024;
+pub const SLACK: u64 = 4096;
 
 // In `row`'s TALLY: how many links there are, and how many entries are in use, dead ones too.
 pub const LIVE: u64 = 2;
