@@ -2,9 +2,9 @@
 # The programs on bad input and good: what they print, what they say on standard error, and their status. They are proved and built first.
 set -u
 cd "$(dirname "$0")/.." || exit 1
-for program in board verify; do
-  if ! (cd crates/$program && rt run <stdin >/dev/null 2>&1); then
-    echo "programs: $program isn't proved, built and run: see 'rt run <stdin' in crates/$program"
+for program in board verify garbage; do
+  if ! (cd crates/$program && rt run -- --help >/dev/null 2>&1); then
+    echo "programs: $program isn't proved, built and run: see 'rt run -- --help' in crates/$program"
     echo '0 passed, 1 failed'
     exit 1
   fi
@@ -36,11 +36,17 @@ run() {
   status=$?
 }
 
-# Of a help text the first line is compared.
+# helps PROGRAM WORDS: of a help text the first line is compared.
 helps() {
   run "$1" '' --help
   sed -i 1q "$out"
-  expect "$1: help" 0 "usage: $1 FILE"$'\n' none
+  expect "$1: help" 0 "usage: $1 $2"$'\n' none
+}
+
+# misses [WORDS..]: words that ask 'garbage' for nothing.
+misses() {
+  run garbage '' "$@"
+  expect "garbage: bad words: $*" 1 '' 'the words are SEED COUNT, two numbers; see garbage --help'
 }
 
 two='\x00\x01\x00\x00\x02\x00'
@@ -84,7 +90,7 @@ run board '' one two
 expect 'board: two files' 1 '' 'more than one file; see board --help'
 run board '' crates/board/stdin
 expect 'board: a file' 0 "$(cat crates/board/stdout)"$'\n' none
-helps board
+helps board FILE
 
 run verify '\x02\x00\x01\x00\x02\x00\x01\x00\x02\x00'
 expect 'verify: kept' 0 $'kept\n' none
@@ -102,7 +108,17 @@ run verify '' no-such-file
 expect 'verify: no file' 1 '' 'no-such-file: No such file or directory (os error 2)'
 run verify '' one two
 expect 'verify: two files' 1 '' 'more than one file; see verify --help'
-helps verify
+helps verify FILE
+
+misses
+misses 1
+misses 1 many
+misses few 10
+misses 1 -1
+misses 1 10 100
+misses worst 1
+misses --help 1
+helps garbage 'SEED COUNT'
 
 echo "$passed passed, $failed failed"
 [ "$failed" = 0 ]
