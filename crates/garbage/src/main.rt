@@ -43,8 +43,8 @@ For each kind of memory and event one line says how often it was answered how:
 that cards are told, or numbers shown, or that it is done, or by which number
 it is refused. The slowest step is told on standard error.
 
-A step that takes more than a second, or whose answer doesn't fit what carries
-it, ends all with a message on standard error and status 1.
+A step that takes more than a second of the processor, or whose answer doesn't
+fit what carries it, ends all with a message on standard error and status 1.
 
 With the word 'worst' it takes the longest step that is known instead, from a
 memory that is built for it, and prints how long that took.

@@ -6,7 +6,7 @@ use row::CARDS;
 use std::fmt;
 use std::time::Duration;
 
-// From which memory, by what event with how many links, what was answered, and how long it took.
+// From which memory, by what event with how many links, what was answered, and how long the processor took.
 #[derive(Clone, Copy)]
 pub(crate) struct Taken {
     pub number: u64,

@@ -11,7 +11,7 @@ use batch::{Event, step};
 use keeper::MEMORY;
 use links::ENTRIES;
 use row::{CARDS, Link};
-use std::time::Instant;
+use std::time::CpuClock;
 
 // Puts into the batch links from each of the last cards to each of the first, as many as may be said at once.
 fn put_links(bench: &mut Bench) -> anyhow::Result<()> {
@@ -36,9 +36,9 @@ pub(crate) fn try_worst(rt: &HostRuntime) -> anyhow::Result<()> {
     let memory = bench.memory.as_mut_slice();
     let memory = memory.get_mut(..MEMORY).context("memory")?;
     let out = bench.out.as_mut_slice();
-    let start = Instant::now(rt)?;
+    let start = rt.thread_cpu_time()?;
     let answer = step(memory, Event::Several, bench.batch.as_slice(), out);
-    let took = start.elapsed(rt)?;
+    let took = rt.thread_cpu_time()?.saturating_sub(start);
     println!(rt; "{MARGIN} links at once: {answer:?}, {took:?}")?;
     Ok(())
 }
