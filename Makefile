@@ -1,4 +1,4 @@
-.PHONY: run test
+.PHONY: run test beside
 
 # Proves and builds the board program, and plays a sample of sayings.
 run:
@@ -8,3 +8,10 @@ run:
 # The gate.
 test:
 	.ci/run
+
+# Many more random sayings than the gate has, said to the keeper and to a slow board; SEED and COUNT may be given.
+SEED = 2
+COUNT = 10000000
+beside:
+	cd crates/beside && rt run -- $(SEED) 0 </dev/null >/dev/null
+	crates/beside/out/beside $(SEED) $(COUNT)

@@ -2,13 +2,19 @@
 # The programs on bad input and good: what they print, what they say on standard error, and their status. They are proved and built first.
 set -u
 cd "$(dirname "$0")/.." || exit 1
-for program in board verify garbage; do
-  if ! (cd crates/$program && rt run -- --help >/dev/null 2>&1); then
-    echo "programs: $program isn't proved, built and run: see 'rt run -- --help' in crates/$program"
+# build PROGRAM [ARGS..]: proves and builds it, and runs it once.
+build() {
+  if ! (cd crates/"$1" && rt run "${@:2}" >/dev/null 2>&1); then
+    echo "programs: $1 isn't proved, built and run: see 'rt run' in crates/$1"
     echo '0 passed, 1 failed'
     exit 1
   fi
-done
+}
+
+build board <crates/board/stdin
+build verify <crates/verify/stdin
+build beside -- 1 0 </dev/null
+build garbage -- --help </dev/null
 passed=0
 failed=0
 out=$(mktemp)
@@ -36,7 +42,7 @@ run() {
   status=$?
 }
 
-# helps PROGRAM WORDS: of a help text the first line is compared.
+# helps PROGRAM ARGS: of a help text the first line is compared, that the program is called with these.
 helps() {
   run "$1" '' --help
   sed -i 1q "$out"
@@ -109,6 +115,20 @@ expect 'verify: no file' 1 '' 'no-such-file: No such file or directory (os error
 run verify '' one two
 expect 'verify: two files' 1 '' 'more than one file; see verify --help'
 helps verify FILE
+
+run beside '' 1 300000
+expect 'beside: the sayings of the gate' 0 "$(cat crates/beside/stdout)"$'\n' none
+run beside ''
+expect 'beside: no words' 1 '' 'a seed and a number of sayings are wanted; see beside --help'
+run beside '' 1
+expect 'beside: one word' 1 '' 'a seed and a number of sayings are wanted; see beside --help'
+run beside '' 1 2 3
+expect 'beside: three words' 1 '' 'a seed and a number of sayings are wanted; see beside --help'
+run beside '' one 2
+expect 'beside: a seed that is no number' 1 '' 'the seed has to be a number below 2^64; see beside --help'
+run beside '' 1 -2
+expect 'beside: so many sayings as there are not' 1 '' 'the number of sayings has to be a number below 2^64; see beside --help'
+helps beside 'SEED COUNT'
 
 misses
 misses 1

@@ -1,34 +1,59 @@
 -- A step is taken if the memory and the output fit, else nothing is changed.
-use Rattle.std.proofs.Common.{◌≡◌, ℕ, ◌≤◌, Bool, true, false, ◌++◌, List, length, take, drop, Err, Result, sym, refl, ap, ◌∙◌, subst, ap₂, arith}
+use Rattle.std.proofs.Common.{◌≡◌, ℕ, ◌≤◌, Bool, true, false, ◌++◌, List, length, take, drop, Err, Result, sym, refl, ap, ◌∙◌, ap₂, arith}
 use Rattle.std.proofs.lemmas.Bool.Decides.{nat_tests}
 use Rattle.keeper.specs.declared.event.Reason.{Reason}
 use Rattle.keeper.specs.declared.event.Reason.TheVariants.{Unfit}
 use Rattle.keeper.specs.declared.event.Act.{Act}
 use Rattle.keeper.specs.Engine.{action_of}
-use Rattle.keeper.specs.Answers.{Gives}
+use Rattle.keeper.specs.declared.event.Telling.{Telling}
+use Rattle.keeper.specs.declared.event.Telling.TheVariants.{Written}
+use Rattle.keeper.specs.Answers.{Gives, kept, as_told}
+use Rattle.keeper.specs.Playing.{StepsTo}
 use Rattle.keeper.specs.Own.{step_fits}
 use Rattle.keeper.proofs.Fitting.{other_size, short_out}
+use Rattle.keeper.proofs.Writing.{kept_few}
 use Rattle.keeper.proofs.Room.{front_stands}
 use Rattle.batch.specs.Engine.{Heard}
 use Rattle.batch.specs.Own.{answer, guarded, StepBy, StepSays}
+use Rattle.batch.specs.Playing.{stepped}
 use Rattle.batch.proofs.Room.{few}
 use Rattle.batch.proofs.Wholly.{own_fits, whole_in_own}
 
-pub took : (m : List ℕ) (h : Heard) (out : List ℕ) (r : Result Act Reason) (m₁ front₁ : List ℕ) → length m ≡ 524288 → 8192 ≤ length out →
-    Gives (answer m h) (take 8192 out) r m₁ front₁ → StepSays m h out r m₁ (front₁ ++ drop 8192 out)
-unfolding StepBy guarded
-took m h out r m₁ front₁ e u g =
+-- a step whose answer is given in the front of the output
+pub took : (w : Telling) (m : List ℕ) (h : Heard) (out : List ℕ) (r : Result Act Reason) (m₁ front₁ : List ℕ) → length m ≡ 524288 → 8192 ≤ length out →
+    Gives (as_told w (answer m h)) (take 8192 out) r m₁ front₁ → StepsTo (stepped w m h out) r m₁ (front₁ ++ drop 8192 out)
+unfolding stepped as_told
+took w m h out r m₁ front₁ e u g =
     let f : step_fits m out ≡ true = grind (arith, nat_tests) in
-    subst (λ (x : Bool). StepBy x m h out r m₁ (front₁ ++ drop 8192 out)) (sym f) (record {
+    let ks = (as_told w (answer m h)).numbers in
+    let l : length ks ≤ 8192 = omega (arith, kept_few w (answer m h).act (answer m h).numbers, few m h) in
+    rw f (record {
       act = g.act;
-      memory = g.after;
-      told = ap (λ (xs : List ℕ). xs ++ drop 8192 out) g.out ∙ front_stands 8192 (answer m h).numbers out (few m h) u;
-      own_step = λ q. rw q
-          (ap₂ (λ (y : Result Act Reason) (z : List ℕ). record { memory = z; action = action_of y (answer m h).numbers }) (sym g.act) (sym g.after));
+      after = g.after;
+      told = ap (λ (xs : List ℕ). xs ++ drop 8192 out) g.out ∙ front_stands 8192 ks out l u;
     })
 
-pub untook : (m : List ℕ) (h : Heard) (out : List ℕ) → step_fits m out ≡ false → StepSays m h out (Err Unfit) m out
-unfolding StepBy
-untook m h out f = subst (λ (b : Bool). StepBy b m h out (Err Unfit) m out) (sym f) (record { act = refl; memory = refl; told = refl })
+pub untook : (w : Telling) (m : List ℕ) (h : Heard) (out : List ℕ) → step_fits m out ≡ false → StepsTo (stepped w m h out) (Err Unfit) m out
+unfolding stepped
+untook w m h out f = rw f (record { act = refl; after = refl; told = refl })
 
-pub ruleset beginnings = (took, untook, other_size, short_out, own_fits, whole_in_own)
+pub ruleset fitting = (took, untook, other_size, short_out)
+
+-- a step of which all is written is the engine's
+says : (b : Bool) (m : List ℕ) (h : Heard) (out : List ℕ) (r : Result Act Reason) (m₁ out₁ : List ℕ) → step_fits m out ≡ b →
+    StepsTo (stepped Written m h out) r m₁ out₁ → StepBy b m h out r m₁ out₁
+unfolding stepped as_told kept StepBy guarded
+says true m h out r m₁ out₁ f = rw f (λ t. record {
+  act = t.act;
+  memory = t.after;
+  told = t.told;
+  own_step = λ q. rw q
+      (ap₂ (λ (y : Result Act Reason) (z : List ℕ). record { memory = z; action = action_of y (answer m h).numbers }) (sym t.act) (sym t.after));
+})
+says false m h out r m₁ out₁ f = rw f (λ t. record { act = t.act; memory = t.after; told = t.told })
+
+pub written_says : (m : List ℕ) (h : Heard) (out : List ℕ) (r : Result Act Reason) (m₁ out₁ : List ℕ) → StepsTo (stepped Written m h out) r m₁ out₁ →
+    StepSays m h out r m₁ out₁
+written_says m h out r m₁ out₁ = says (step_fits m out) m h out r m₁ out₁ refl
+
+pub ruleset beginnings = (written_says, own_fits, whole_in_own)

@@ -3,6 +3,8 @@ use Rattle.std.proofs.Common.{◌≡◌, ℕ, zero, suc, ◌≤◌, true, List, 
 use lib.ListN.{length-replicate}
 use Rattle.std.proofs.lemmas.Bool.Decides.{nat_tests as tests}
 use Rattle.row.specs.Commands.{Told}
+use Rattle.keeper.specs.declared.event.Telling.TheVariants.{PassedOver}
+use Rattle.keeper.specs.Answers.{as_told}
 use Rattle.keeper.specs.Own.{step_fits}
 use Rattle.keeper.specs.Playing.{fronted, by_act}
 use Rattle.keeper.specs.Meaning.{Means}
@@ -15,7 +17,8 @@ use Rattle.batch.specs.PlayLaws.{Plays, PlaysUnfit}
 use Rattle.batch.proofs.Wholly.{sized, each}
 
 pub stepped_fits : (m : List ℕ) (h : Heard) (out : List ℕ) → length m ≡ 524288 → 8192 ≤ length out →
-    stepped m h out ≡ record { act = (answer m h).act; memory = (answer m h).memory; out = fronted (answer m h).numbers out }
+    stepped PassedOver m h out
+    ≡ record { act = (answer m h).act; memory = (answer m h).memory; out = fronted (as_told PassedOver (answer m h)).numbers out }
 unfolding stepped
 stepped_fits m h out l o = let f : step_fits m out ≡ true = grind (arith, tests) in rw f
 
@@ -30,8 +33,8 @@ run_agrees zero m h out ts ss s l o q = neither 1000 _ _ _ (λ z. omega arith) (
 run_agrees (suc n) m h out ts ss s l o q =
     rw (guarded_small m h q, stepped_fits m h out l o)
     (act_agrees (λ m₁ ts₁ ss₁. runs n own m₁ next ts₁ ss₁) (λ m₁ out₁ s₁. plays n m₁ next out₁ s₁) ts ss (answer m h).memory
-    (fronted (answer m h).numbers out) s
-    (λ ts₁ ss₁ s₁. run_agrees n _ next _ ts₁ ss₁ s₁ ((sized m h q).0.0 ∙ l) (long_fronted (answer m h).numbers out o) refl)
+    (fronted (as_told PassedOver (answer m h)).numbers out) s
+    (λ ts₁ ss₁ s₁. run_agrees n _ next _ ts₁ ss₁ s₁ ((sized m h q).0.0 ∙ l) (long_fronted (as_told PassedOver (answer m h)).numbers out o) refl)
     (answer m h).act (answer m h).numbers)
 
 pub plays_right : Plays

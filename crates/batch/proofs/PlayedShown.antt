@@ -10,6 +10,8 @@ use Rattle.row.specs.Commands.{refusal, Told}
 use Rattle.keeper.specs.declared.event.Act.{Act}
 use Rattle.keeper.specs.declared.event.Reason.{Reason}
 use Rattle.keeper.specs.declared.event.Act.TheVariants.{Tells, Shows, Done}
+use Rattle.keeper.specs.declared.event.Telling.TheVariants.{PassedOver}
+use Rattle.keeper.specs.Answers.{kept, as_told}
 use Rattle.keeper.specs.Engine.{action_of, Ran, one_act}
 use Rattle.keeper.specs.Promise.{shown_for, RoundShown}
 use Rattle.keeper.specs.Sister.{ToldNeeded}
@@ -50,26 +52,28 @@ shown_front ts ss n ks out l = record {
       (sym l ∙ ap length w, take_at ks _ n l ∙ w);
 }
 
-module _ (go : Go) (on : List ℕ → List ℕ → ℕ → Ending) (ts : List Told) (ss : List (List ℕ)) (m ks out : List ℕ) (s : ℕ) (h : Showing ts ss s out)
-    (f : (ts₁ : List Told) (ss₁ : List (List ℕ)) (s₁ : ℕ) → Showing ts₁ ss₁ s₁ (fronted ks out) → ShowsSo (go m ts₁ ss₁) (on m (fronted ks out) s₁)) where
-  act_shows : (a : Result Act Reason) → CountedBy a ks → ShowsSo (one_act go ts ss m (action_of a ks)) (by_act on m (fronted ks out) s a)
-  unfolding one_act by_act
-  act_shows (Ok (Tells p n)) l =
+module _ (go : Go) (on : List ℕ → List ℕ → ℕ → Ending) (ts : List Told) (ss : List (List ℕ)) (m ks out : List ℕ) (s : ℕ) (h : Showing ts ss s out) where
+  act_shows : (a : Result Act Reason) → CountedBy a ks →
+      ((ts₁ : List Told) (ss₁ : List (List ℕ)) (s₁ : ℕ) → Showing ts₁ ss₁ s₁ (fronted (kept PassedOver a ks) out) →
+      ShowsSo (go m ts₁ ss₁) (on m (fronted (kept PassedOver a ks) out) s₁)) →
+      ShowsSo (one_act go ts ss m (action_of a ks)) (by_act on m (fronted (kept PassedOver a ks) out) s a)
+  unfolding one_act by_act kept
+  act_shows (Ok (Tells p n)) l f =
       rw (le-leb (length (take n ks)) 4096 (omega (arith, length-take n ks)))
       (f _ ss s (record { none = h.none; single = λ js e. absurd (not_none ts _ e) }))
-  act_shows (Ok (Shows n)) l = f ts _ n (shown_front ts ss n ks out l)
-  act_shows (Ok Done) l = rw l h
-  act_shows (Err e) l = rw l h
+  act_shows (Ok (Shows n)) l f = f ts _ n (shown_front ts ss n ks out l)
+  act_shows (Ok Done) l f = rw l h
+  act_shows (Err e) l f = rw l h
 
 run_shows : (n : ℕ) (m : List ℕ) (h : Heard) (out : List ℕ) (ts : List Told) (ss : List (List ℕ)) (s : ℕ) → length m ≡ 524288 → 8192 ≤ length out →
     small_heard h ≡ true → Showing ts ss s out → ShowsSo (runs n own m h ts ss) (plays n m h out s)
-unfolding runs plays small_heard
+unfolding runs plays small_heard as_told
 run_shows zero m h out ts ss s l o q w = w
 run_shows (suc n) m h out ts ss s l o q w =
     rw (guarded_small m h q, stepped_fits m h out l o)
     (act_shows (λ m₁ ts₁ ss₁. runs n own m₁ next ts₁ ss₁) (λ m₁ out₁ s₁. plays n m₁ next out₁ s₁) ts ss (answer m h).memory (answer m h).numbers out s w
-    (λ ts₁ ss₁ s₁. run_shows n _ next _ ts₁ ss₁ s₁ ((sized m h q).0.0 ∙ l) (long_fronted (answer m h).numbers out o) refl)
-    (answer m h).act (counted m h))
+    (answer m h).act (counted m h)
+    (λ ts₁ ss₁ s₁. run_shows n _ next _ ts₁ ss₁ s₁ ((sized m h q).0.0 ∙ l) (long_fronted (as_told PassedOver (answer m h)).numbers out o) refl))
 
 -- of a saying that is done
 done_shows : (r : Board) (s : Saying) (ts : List Told) (row : List ℕ) (p : Ending) → Showing ts (shown_so r s) p.answer.shown p.out → ToldSo r s ts row →

@@ -7,8 +7,8 @@ ghost use Rattle.batch.specs.Playing.{played};
 ghost use Rattle.batch.specs.Promise.{WholeIn};
 
 use crate::event::Event;
-use crate::stepping::step;
-use keeper::{Played, play_on};
+use crate::stepping::step_as;
+use keeper::{Played, Telling, play_on};
 use row::Link;
 
 // Says what the event says, and goes on until it's at its end. Three steps are enough, unless the memory isn't a keeper's. The batch is read only for
@@ -21,6 +21,6 @@ pub fn play(memory: &mut [u64], event: Event, batch: &[Link], out: &mut [u64]) -
     ensures right { Plays }
     ensures shows { PlaysShows }
 {
-    let answer = step(memory, event, batch, out);
+    let answer = step_as(memory, event, batch, Telling::PassedOver, out);
     play_on(memory, answer, out)
 }

@@ -1,6 +1,6 @@
 // Several links are said at once, or the row is made anew.
 ghost use Rattle.std.specs.Prelude.{◌≡◌, ◌≤◌, length, take};
-ghost use Rattle.keeper.specs.Answers.{Gives};
+ghost use Rattle.keeper.specs.Answers.{Gives, as_told};
 ghost use Rattle.batch.specs.Own.{said_anew};
 ghost use Rattle.batch.specs.Saying.{told_span, part_aside, undone, brought, rearranged, said_several};
 
@@ -9,20 +9,25 @@ use crate::joining::{join_all, take_out};
 use crate::layout::BATCH;
 use crate::seating::Span;
 use crate::tidying::tidy;
-use keeper::{Act, LINKS, Memory, Output, Pending, Reason};
+use keeper::{Act, Event, LINKS, Memory, Output, Pending, Reason, Telling, hear};
 use row::{Link, Refusal};
 
 // Tells the part of the row.
-#[tactic(auto, using(crate::proofs::SayingSteps::given_by), unfolding(keeper::specs::Own::answer, crate::specs::Saying::noting))]
-fn tell_span(memory: &mut Memory, span: Span, out: &mut Output) -> Result<Act, Reason>
-    ensures { Gives (told_span memory.old span) out.old result memory.new out.new }
+#[tactic(auto, unfolding(keeper::specs::Own::answer, crate::specs::Saying::noting))]
+fn tell_span(
+    memory: &mut Memory,
+    span: Span,
+    telling: Telling,
+    out: &mut Output,
+) -> Result<Act, Reason>
+    ensures { Gives (as_told telling (told_span memory.old span)) out.old result memory.new out.new }
 {
     let more = Pending::More {
         from: span.low,
         to: span.high,
     };
     more.note(memory);
-    keeper::step(memory, keeper::Event::Next, out)
+    hear(memory, Event::Next, telling, out)
 }
 
 // Links that are said at once, and the part of the row that may change for them; none, if the row keeps them already.
@@ -67,9 +72,9 @@ impl<'a> Several<'a> {
     }
 
     // All links are in: tells the part of the row that may have changed; but if there are too many, all is as it was.
-    #[tactic(auto, unfolding(crate::specs::Saying::brought))]
-    fn bring(self, memory: &mut Memory, out: &mut Output) -> Result<Act, Reason>
-        ensures { Gives (brought memory.old self.entry.links.now self.entry.span) out.old result memory.new out.new }
+    #[tactic(auto, using(keeper::proofs::Writing::writing), unfolding(keeper::specs::Answers::as_told, crate::specs::Saying::brought))]
+    fn bring(self, memory: &mut Memory, telling: Telling, out: &mut Output) -> Result<Act, Reason>
+        ensures { Gives (as_told telling (brought memory.old self.entry.links.now self.entry.span)) out.old result memory.new out.new }
     {
         if links::len(memory) > LINKS {
             self.undo(memory);
@@ -78,17 +83,22 @@ impl<'a> Several<'a> {
         let Some(span) = self.span else {
             return Ok(Act::Done);
         };
-        tell_span(memory, span, out)
+        tell_span(memory, span, telling, out)
     }
 
     // Tries the links: the row is put right for all of them, or all is as it was.
-    #[tactic(auto, unfolding(crate::specs::Saying::rearranged, crate::specs::Saying::by_trial))]
-    fn rearrange(self, memory: &mut Memory, out: &mut Output) -> Result<Act, Reason>
-        ensures { Gives (rearranged memory.old self.entry.links.now self.entry.span) out.old result memory.new out.new }
+    #[tactic(auto, using(keeper::proofs::Writing::writing), unfolding(keeper::specs::Answers::as_told, crate::specs::Saying::rearranged, crate::specs::Saying::by_trial))]
+    fn rearrange(
+        self,
+        memory: &mut Memory,
+        telling: Telling,
+        out: &mut Output,
+    ) -> Result<Act, Reason>
+        ensures { Gives (as_told telling (rearranged memory.old self.entry.links.now self.entry.span)) out.old result memory.new out.new }
     {
         self.save(memory);
         match join_all(memory, self.links, out) {
-            Ok(()) => self.bring(memory, out),
+            Ok(()) => self.bring(memory, telling, out),
             Err(round) => {
                 self.front(round.count).undo(memory);
                 Pending::Round.note(memory);
@@ -99,13 +109,14 @@ impl<'a> Several<'a> {
 }
 
 // Says the links at once.
-#[tactic(auto, unfolding(crate::specs::Saying::said_several))]
+#[tactic(auto, using(keeper::proofs::Writing::writing), unfolding(keeper::specs::Answers::as_told, crate::specs::Saying::said_several))]
 pub(crate) fn say_several(
     memory: &mut Memory,
     batch: &[Link],
+    telling: Telling,
     out: &mut Output,
 ) -> Result<Act, Reason>
-    ensures { Gives (said_several memory.old batch.now) out.old result memory.new out.new }
+    ensures { Gives (as_told telling (said_several memory.old batch.now)) out.old result memory.new out.new }
 {
     if batch.len() > BATCH {
         return Err(Refusal::Full.into());
@@ -120,17 +131,21 @@ pub(crate) fn say_several(
         links: batch,
         span: span_of(memory, batch),
     };
-    several.rearrange(memory, out)
+    several.rearrange(memory, telling, out)
 }
 
 // Makes the row anew, from the order of the cards' numbers, and tells all of it. A memory whose links go round isn't a keeper's.
-#[tactic(auto, unfolding(crate::specs::Own::said_anew))]
-pub(crate) fn say_anew(memory: &mut Memory, out: &mut Output) -> Result<Act, Reason>
-    ensures { Gives (said_anew memory.old) out.old result memory.new out.new }
+#[tactic(auto, using(keeper::proofs::Writing::writing), unfolding(keeper::specs::Answers::as_told, crate::specs::Own::said_anew))]
+pub(crate) fn say_anew(
+    memory: &mut Memory,
+    telling: Telling,
+    out: &mut Output,
+) -> Result<Act, Reason>
+    ensures { Gives (as_told telling (said_anew memory.old)) out.old result memory.new out.new }
 {
     if !tidy(memory) {
         return Err(Reason::Unfit);
     }
     let all = Span::first(row::len(memory));
-    tell_span(memory, all, out)
+    tell_span(memory, all, telling, out)
 }

@@ -1,5 +1,5 @@
 -- A step is taken if the memory and the output fit, else nothing is changed.
-use Rattle.std.proofs.Common.{◌≡◌, ℕ, ◌<◌, ◌≤◌, ◌≢◌, Bool, true, false, List, ◌++◌, length, take, drop, Result, Err, sym, refl, ap, ◌∙◌, subst, ap₂, arith}
+use Rattle.std.proofs.Common.{◌≡◌, ℕ, ◌<◌, ◌≤◌, ◌≢◌, Bool, true, false, List, ◌++◌, length, take, drop, Result, Err, sym, refl, ap, ◌∙◌, ap₂, arith}
 use Rattle.std.proofs.lemmas.Bool.Decides.{nat_tests}
 use Rattle.std.proofs.lemmas.Bool.{eq-eqb, ne_eqb}
 use Rattle.keeper.specs.declared.event.Event.{Event}
@@ -8,10 +8,14 @@ use Rattle.keeper.specs.declared.event.Act.{Act}
 use Rattle.keeper.specs.declared.event.Reason.{Reason}
 use Rattle.keeper.specs.declared.event.Reason.TheVariants.{Unfit, Busy}
 use Rattle.row.specs.declared.board.Command.{Command}
-use Rattle.keeper.specs.Answers.{Gives, quiet, ends, pending}
+use Rattle.keeper.specs.declared.event.Telling.{Telling}
+use Rattle.keeper.specs.declared.event.Telling.TheVariants.{Written}
+use Rattle.keeper.specs.Answers.{Gives, quiet, ends, pending, kept, as_told}
+use Rattle.keeper.specs.Playing.{stepped, StepsTo}
 use Rattle.keeper.specs.Engine.{action_of}
 use Rattle.keeper.proofs.Size.{guarded_small}
 use Rattle.keeper.specs.Own.{said, went_on, answer, steps, step_fits, StepBy, StepSays}
+use Rattle.keeper.proofs.Writing.{kept_few}
 use Rattle.keeper.proofs.Room.{few_answer, front_stands}
 
 pub other_size : (m out : List ℕ) → length m ≢ 524288 → step_fits m out ≡ false
@@ -20,23 +24,42 @@ other_size m out n = grind (arith, nat_tests)
 pub short_out : (m out : List ℕ) → length out < 8192 → step_fits m out ≡ false
 short_out m out l = grind (arith, nat_tests)
 
-pub took : (m : List ℕ) (ev : Event) (out : List ℕ) (r : Result Act Reason) (m₁ front₁ : List ℕ) → length m ≡ 524288 → 8192 ≤ length out →
-    Gives (answer m ev) (take 8192 out) r m₁ front₁ → StepSays m ev out r m₁ (front₁ ++ drop 8192 out)
-unfolding StepBy
-took m ev out r m₁ front₁ e h g =
+-- a step whose answer is given in the front of the output
+pub took : (w : Telling) (m : List ℕ) (ev : Event) (out : List ℕ) (r : Result Act Reason) (m₁ front₁ : List ℕ) → length m ≡ 524288 → 8192 ≤ length out →
+    Gives (as_told w (answer m ev)) (take 8192 out) r m₁ front₁ → StepsTo (stepped w m ev out) r m₁ (front₁ ++ drop 8192 out)
+unfolding stepped as_told
+took w m ev out r m₁ front₁ e h g =
     let f : step_fits m out ≡ true = grind (arith, nat_tests) in
-    subst (λ (x : Bool). StepBy x m ev out r m₁ (front₁ ++ drop 8192 out)) (sym f) (record {
+    let ks = (as_told w (answer m ev)).numbers in
+    let l : length ks ≤ 8192 = omega (arith, kept_few w (answer m ev).act (answer m ev).numbers, few_answer m ev) in
+    rw f (record {
       act = g.act;
-      memory = g.after;
-      told = ap (λ (xs : List ℕ). xs ++ drop 8192 out) g.out ∙ front_stands 8192 (answer m ev).numbers out (few_answer m ev) h;
-      own_step = λ q. guarded_small steps m ev q
-          ∙ ap₂ (λ (y : Result Act Reason) (z : List ℕ). record { memory = z; action = action_of y (answer m ev).numbers }) (sym g.act) (sym g.after);
+      after = g.after;
+      told = ap (λ (xs : List ℕ). xs ++ drop 8192 out) g.out ∙ front_stands 8192 ks out l h;
     })
 
-pub untook : (m : List ℕ) (ev : Event) (out : List ℕ) → step_fits m out ≡ false → StepSays m ev out (Err Unfit) m out
-unfolding StepBy
-untook m ev out f =
-    subst (λ (b : Bool). StepBy b m ev out (Err Unfit) m out) (sym f) (record { act = refl; memory = refl; told = refl })
+pub untook : (w : Telling) (m : List ℕ) (ev : Event) (out : List ℕ) → step_fits m out ≡ false → StepsTo (stepped w m ev out) (Err Unfit) m out
+unfolding stepped
+untook w m ev out f = rw f (record { act = refl; after = refl; told = refl })
+
+pub ruleset fitting = (took, untook, other_size, short_out)
+
+-- a step of which all is written is the engine's
+says : (b : Bool) (m : List ℕ) (ev : Event) (out : List ℕ) (r : Result Act Reason) (m₁ out₁ : List ℕ) → step_fits m out ≡ b →
+    StepsTo (stepped Written m ev out) r m₁ out₁ → StepBy b m ev out r m₁ out₁
+unfolding stepped as_told kept StepBy
+says true m ev out r m₁ out₁ f = rw f (λ t. record {
+  act = t.act;
+  memory = t.after;
+  told = t.told;
+  own_step = λ q. guarded_small steps m ev q
+      ∙ ap₂ (λ (y : Result Act Reason) (z : List ℕ). record { memory = z; action = action_of y (answer m ev).numbers }) (sym t.act) (sym t.after);
+})
+says false m ev out r m₁ out₁ f = rw f (λ t. record { act = t.act; memory = t.after; told = t.told })
+
+pub written_says : (m : List ℕ) (ev : Event) (out : List ℕ) (r : Result Act Reason) (m₁ out₁ : List ℕ) → StepsTo (stepped Written m ev out) r m₁ out₁ →
+    StepSays m ev out r m₁ out₁
+written_says m ev out r m₁ out₁ = says (step_fits m out) m ev out r m₁ out₁ refl
 
 pub answer_busy : (m : List ℕ) (c : Command) → (pending m ≡ 0 → ⊥) → answer m (Said c) ≡ quiet (ends (Err Busy) m)
 unfolding answer

@@ -11,6 +11,7 @@ pub mod Zeros
 pub mod OwnSize
 pub mod Same
 pub mod Excluding
+pub mod Writing
 pub mod Fitting
 pub mod TellingParts
 pub mod Knowing
@@ -32,3 +33,4 @@ pub mod PlayedOn
 pub mod Room
 pub mod PlayedRun
 pub mod RowRead
+pub mod EngineSteps

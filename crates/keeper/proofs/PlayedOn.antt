@@ -1,32 +1,28 @@
 -- A command that is played goes from answer to answer as its model does.
-use Rattle.std.proofs.Common.{◌≡◌, ℕ, suc, ◌+◌, ◌-◌, ◌<◌, Bool, true, false, List, Some, None, Ok, Err, Result, sym, refl, ap, subst, arith}
+use Rattle.std.proofs.Common.{◌≡◌, ℕ, suc, ◌+◌, ◌-◌, ◌<◌, List, Some, None, Ok, Err, Result, sym, refl, ap, subst, arith}
 use Rattle.keeper.specs.declared.event.Event.{Event}
 use Rattle.keeper.specs.declared.event.Event.TheVariants.{Next}
 use Rattle.keeper.specs.declared.event.Reason.{Reason}
 use Rattle.keeper.specs.declared.event.Act.{Act}
 use Rattle.keeper.specs.declared.event.Act.TheVariants.{Tells, Shows, Done}
-use Rattle.keeper.specs.Own.{step_fits, StepBy, StepSays}
-use Rattle.keeper.specs.Playing.{Stepped, stepped, Went, by_act, plays, shown_then, ended_by, played_on}
+use Rattle.keeper.specs.declared.event.Telling.TheVariants.{PassedOver}
+use Rattle.keeper.specs.Playing.{Stepped, stepped, StepsTo, Went, by_act, plays, shown_then, ended_by, played_on}
 
 abbrev pub to : Result Act Reason → List ℕ → List ℕ → Stepped
 to r m out = record { act = r; memory = m; out = out }
 
-stepped_by : (b : Bool) (m : List ℕ) (ev : Event) (out : List ℕ) (r : Result Act Reason) (m₁ out₁ : List ℕ) → step_fits m out ≡ b →
-    StepBy b m ev out r m₁ out₁ → stepped m ev out ≡ to r m₁ out₁
-unfolding stepped StepBy
-stepped_by true m ev out r m₁ out₁ f t = rw (f, t.act, t.memory, t.told)
-stepped_by false m ev out r m₁ out₁ f t = rw (f, t.act, t.memory, t.told)
+pub stepped_to : (s : Stepped) (r : Result Act Reason) (m₁ out₁ : List ℕ) → StepsTo s r m₁ out₁ → s ≡ to r m₁ out₁
+stepped_to s r m₁ out₁ t = rw (t.act, t.after, t.told) refl
 
 -- what comes of an event is what comes of its answer
-pub plays_on : (m : List ℕ) (ev : Event) (out : List ℕ) (r : Result Act Reason) (m₁ out₁ : List ℕ) (s : ℕ) → StepSays m ev out r m₁ out₁ → (n : ℕ) →
-    plays (suc n) m ev out s ≡ played_on n m₁ r out₁ s
+pub plays_on : (m : List ℕ) (ev : Event) (out : List ℕ) (r : Result Act Reason) (m₁ out₁ : List ℕ) (s : ℕ) →
+    StepsTo (stepped PassedOver m ev out) r m₁ out₁ → (n : ℕ) → plays (suc n) m ev out s ≡ played_on n m₁ r out₁ s
 unfolding plays
 plays_on m ev out r m₁ out₁ s t n =
-    ap (λ (x : Stepped). by_act (λ m₂ out₂ s₂. plays n m₂ Next out₂ s₂) x.memory x.out s x.act)
-    (stepped_by (step_fits m out) m ev out r m₁ out₁ refl t)
+    ap (λ (x : Stepped). by_act (λ m₂ out₂ s₂. plays n m₂ Next out₂ s₂) x.memory x.out s x.act) (stepped_to (stepped PassedOver m ev out) r m₁ out₁ t)
 
 pub goes_on : (i : ℕ) → i < 2 → (m : List ℕ) (a : Result Act Reason) (out : List ℕ) (r : Result Act Reason) (m₁ out₁ : List ℕ) →
-    StepSays m Next out r m₁ out₁ → (s n : ℕ) → shown_then s a ≡ Some n → played_on (2 - i) m a out s ≡ played_on (2 - (i + 1)) m₁ r out₁ n
+    StepsTo (stepped PassedOver m Next out) r m₁ out₁ → (s n : ℕ) → shown_then s a ≡ Some n → played_on (2 - i) m a out s ≡ played_on (2 - (i + 1)) m₁ r out₁ n
 unfolding by_act
 goes_on i l m (Ok (Tells p k)) out r m₁ out₁ t s n e =
     let z : 2 - i ≡ suc (2 - (i + 1)) = omega arith in

@@ -17,6 +17,8 @@ use Rattle.keeper.specs.Promise.{Refused as RefusedSo}
 use Rattle.keeper.specs.Sister.{DoneFirm}
 use Rattle.keeper.specs.Sized.{small_event}
 use Rattle.keeper.specs.Own.{answer, steps, own, step_fits}
+use Rattle.keeper.specs.declared.event.Telling.TheVariants.{PassedOver}
+use Rattle.keeper.specs.Answers.{as_told}
 use Rattle.keeper.specs.Meaning.{Means}
 use Rattle.keeper.specs.Playing.{fronted, stepped, Ending, by_act, plays}
 use Rattle.keeper.specs.PlayLaws.{Plays, PlaysUnfit}
@@ -95,7 +97,8 @@ module _ (go : Go) (on : List ℕ → List ℕ → ℕ → Ending) (ts : List To
   act_agrees h (Err e) ks = refused_agrees e ks
 
 stepped_fits : (m : List ℕ) (ev : Event) (out : List ℕ) → length m ≡ 524288 → 8192 ≤ length out →
-    stepped m ev out ≡ record { act = (answer m ev).act; memory = (answer m ev).memory; out = fronted (answer m ev).numbers out }
+    stepped PassedOver m ev out
+    ≡ record { act = (answer m ev).act; memory = (answer m ev).memory; out = fronted (as_told PassedOver (answer m ev)).numbers out }
 unfolding stepped
 stepped_fits m ev out l o = let f : step_fits m out ≡ true = grind (arith, tests) in rw f
 
@@ -109,8 +112,8 @@ run_agrees zero m ev out ts ss s l o q = neither 1000 _ _ _ (λ z. omega arith) 
 run_agrees (suc n) m ev out ts ss s l o q =
     rw (guarded_small steps m ev q, stepped_fits m ev out l o)
     (act_agrees (λ m₁ ts₁ ss₁. runs n own m₁ Next ts₁ ss₁) (λ m₁ out₁ s₁. plays n m₁ Next out₁ s₁) ts ss (answer m ev).memory
-    (fronted (answer m ev).numbers out) s
-    (λ ts₁ ss₁ s₁. run_agrees n _ Next _ ts₁ ss₁ s₁ ((sized_answer m ev q).0.0 ∙ l) (long_fronted (answer m ev).numbers out o) refl)
+    (fronted (as_told PassedOver (answer m ev)).numbers out) s
+    (λ ts₁ ss₁ s₁. run_agrees n _ Next _ ts₁ ss₁ s₁ ((sized_answer m ev q).0.0 ∙ l) (long_fronted (as_told PassedOver (answer m ev)).numbers out o) refl)
     (answer m ev).act (answer m ev).numbers)
 
 pub plays_right : Plays

@@ -1,6 +1,8 @@
 -- Answers of the keeper.
 --
 --   Answer           what a step answers, the memory after it, and the numbers told or shown
+--   kept w a ks      the numbers ks that go with the act or reason a; none, if they are told and what is told is passed over
+--   as_told w a      the answer a with the numbers that are written
 --   Gives a out      what is answered is the answer a: the act or the reason, the memory after it, and the numbers at the front of the output
 --   Ended            an answer with no numbers; Ends: what is answered is that
 --   quiet e          such an answer
@@ -17,6 +19,9 @@ use Rattle.row.specs.Columns.{cell, written}
 use Rattle.row.specs.Layout.{tally}
 use Rattle.keeper.specs.declared.event.Reason.TheVariants.{Board}
 use Rattle.keeper.specs.declared.event.Act.{Act}
+use Rattle.keeper.specs.declared.event.Act.TheVariants.{Tells, Shows, Done as ActDone}
+use Rattle.keeper.specs.declared.event.Telling.{Telling}
+use Rattle.keeper.specs.declared.event.Telling.TheVariants.{Written, PassedOver}
 use Rattle.keeper.specs.declared.event.Reason.{Reason}
 use Rattle.keeper.specs.declared.pending.Pending.{Pending}
 use Rattle.keeper.specs.declared.pending.Pending.TheVariants.{Nothing, Done, Round, More}
@@ -29,6 +34,16 @@ pub record Answer : Type 0 where
 pub record Ended : Type 0 where
   pub act : Result Act Reason
   pub memory : List ℕ
+
+unfoldable pub kept : Telling → Result Act Reason → List ℕ → List ℕ
+kept Written a ks = ks
+kept PassedOver (Ok (Tells p n)) ks = []
+kept PassedOver (Ok (Shows n)) ks = ks
+kept PassedOver (Ok ActDone) ks = ks
+kept PassedOver (Err e) ks = ks
+
+unfoldable pub as_told : Telling → Answer → Answer
+as_told w a = record { act = a.act; memory = a.memory; numbers = kept w a.act a.numbers }
 
 pub record Gives (a : Answer) (out₀ : List ℕ) (r : Result Act Reason) (m₁ out₁ : List ℕ) : Type 0 where
   pub act : r ≡ a.act

@@ -2,8 +2,9 @@
 --
 --   fronted ks out     the output with these numbers at its front
 --   Stepped            a step's answer, the memory and the output after it
---   stepped m ev out   a step on memory and output: the engine's, told at the front of the output; where the memory or the output doesn't fit, refused,
---                      and nothing is changed
+--   stepped w m ev out  a step on memory and output: the engine's, with its numbers at the front of the output, but for those told if they are passed over;
+--                      where the memory or the output doesn't fit, refused, and nothing is changed
+--   StepsTo s          what came of it is the step s
 --   Ending             how a command went: what is answered of it, the memory and the output after it
 --   Went e             what came of it is the ending e
 --   by_act go          what comes of one answer: go on, or be at the end; what is told is passed over, and of what is shown the count is noted
@@ -21,6 +22,9 @@ use Rattle.keeper.specs.declared.event.Reason.TheVariants.{Unfit, Busy}
 use Rattle.keeper.specs.declared.event.Act.{Act}
 use Rattle.keeper.specs.declared.event.Act.TheVariants.{Tells, Shows, Done}
 use Rattle.keeper.specs.declared.playing.Played.{Played}
+use Rattle.keeper.specs.declared.event.Telling.{Telling}
+use Rattle.keeper.specs.declared.event.Telling.TheVariants.{PassedOver}
+use Rattle.keeper.specs.Answers.{as_told}
 use Rattle.keeper.specs.Own.{answer, step_fits}
 
 abbrev pub fronted : List ℕ → List ℕ → List ℕ
@@ -31,10 +35,16 @@ pub record Stepped : Type 0 where
   pub memory : List ℕ
   pub out : List ℕ
 
-unfoldable pub stepped : List ℕ → Event → List ℕ → Stepped
-stepped m ev out =
-    cond (step_fits m out) (record { act = (answer m ev).act; memory = (answer m ev).memory; out = fronted (answer m ev).numbers out })
+unfoldable pub stepped : Telling → List ℕ → Event → List ℕ → Stepped
+stepped w m ev out =
+    cond (step_fits m out)
+    (record { act = (answer m ev).act; memory = (answer m ev).memory; out = fronted (as_told w (answer m ev)).numbers out })
     (record { act = Err Unfit; memory = m; out = out })
+
+pub record StepsTo (s : Stepped) (r : Result Act Reason) (m₁ out₁ : List ℕ) : Type 0 where
+  pub act : r ≡ s.act
+  pub after : m₁ ≡ s.memory
+  pub told : out₁ ≡ s.out
 
 pub record Ending : Type 0 where
   pub answer : Played
@@ -55,7 +65,8 @@ by_act go m out s (Err e) = record { answer = record { shown = s; outcome = Err 
 unfoldable pub plays : ℕ → List ℕ → Event → List ℕ → ℕ → Ending
 plays zero m ev out s = record { answer = record { shown = s; outcome = Err Busy }; memory = m; out = out }
 plays (suc n) m ev out s =
-    by_act (λ m₁ out₁ s₁. plays n m₁ Next out₁ s₁) (stepped m ev out).memory (stepped m ev out).out s (stepped m ev out).act
+    by_act (λ m₁ out₁ s₁. plays n m₁ Next out₁ s₁) (stepped PassedOver m ev out).memory (stepped PassedOver m ev out).out s
+    (stepped PassedOver m ev out).act
 
 abbrev pub shown_then : ℕ → Result Act Reason → Option ℕ
 shown_then s (Ok (Tells p n)) = Some s

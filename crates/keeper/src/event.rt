@@ -44,6 +44,13 @@ impl From<Reason> for u64 {
     }
 }
 
+// Whether the cards that are told stand at the front of the output, or are passed over: who plays a command to its end has no use for them.
+#[derive(Clone, Copy, Debug, PartialEq, Eq)]
+pub enum Telling {
+    Written,
+    PassedOver,
+}
+
 // What the keeper answers, if it doesn't refuse. It tells the row: from a place on so many cards; or it shows so many numbers. The cards and the numbers
 // stand at the front of the lent output. Then the command is done.
 #[derive(Clone, Copy, Debug, PartialEq, Eq)]

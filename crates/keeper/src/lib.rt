@@ -11,12 +11,12 @@ mod stepping;
 mod telling;
 mod theory;
 
-pub use event::{Act, Event, Reason};
+pub use event::{Act, Event, Reason, Telling};
 pub use layout::{LINKS, MEMORY, Memory, OUTPUT, Output};
 pub use linking::slots_of;
 pub use pending::Pending;
 pub use playing::{Played, play, play_on, read_row};
-pub use stepping::step;
+pub use stepping::{hear, step};
 pub use theory::{
     end_stays_stands, endless_is_not_stands, fits_stands, idle_is_not_stands, one_board_stands,
     plays_stands, plays_unfit_stands, reads_row_stands, soon_is_more_stands, whole_in_stands,

@@ -1,10 +1,10 @@
 // Links are made and taken back. Each check hands on its value or leaves with the refusal, by `let .. else`: this is the form of all commands, here and in
 // the crates below, so that what is refused can be seen to have changed nothing.
 ghost use Rattle.std.specs.Prelude.{◌≡◌, Ok};
-ghost use Rattle.keeper.specs.Answers.{Gives, Ends};
+ghost use Rattle.keeper.specs.Answers.{Gives, Ends, as_told};
 ghost use Rattle.keeper.specs.Linking.{slots_found, unlinked, put_in, shown_itself, linked};
 
-use crate::event::{Act, Reason};
+use crate::event::{Act, Reason, Telling};
 use crate::layout::{LINKS, Memory, Output};
 use crate::pending::Pending;
 use crate::reordering::reorder;
@@ -58,9 +58,14 @@ fn show_itself(memory: &mut Memory, card: u64, out: &mut Output) -> Act
 }
 
 // Makes a link between cards.
-#[tactic(auto, unfolding(crate::specs::Linking::linked))]
-pub(crate) fn link(memory: &mut Memory, link: Link, out: &mut Output) -> Result<Act, Reason>
-    ensures { Gives (linked memory.old link) out.old result memory.new out.new }
+#[tactic(auto, using(crate::proofs::Writing::writing), unfolding(crate::specs::Answers::as_told, crate::specs::Linking::linked))]
+pub(crate) fn link(
+    memory: &mut Memory,
+    link: Link,
+    telling: Telling,
+    out: &mut Output,
+) -> Result<Act, Reason>
+    ensures { Gives (as_told telling (linked memory.old link)) out.old result memory.new out.new }
 {
     let Some(slots) = slots_of(memory, link) else {
         return Err(Refusal::Missing.into());
@@ -72,7 +77,7 @@ pub(crate) fn link(memory: &mut Memory, link: Link, out: &mut Output) -> Result<
         return Ok(show_itself(memory, link.from, out));
     }
     if place_at(memory, slots.to) < place_at(memory, slots.from) {
-        return reorder(memory, slots, out);
+        return reorder(memory, slots, telling, out);
     }
     put_in(memory, slots)
 }

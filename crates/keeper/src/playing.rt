@@ -8,8 +8,8 @@ ghost use Rattle.keeper.specs.Sister.{WholeIn};
 ghost use Rattle.row.specs.Layout.{count};
 ghost use Rattle.row.specs.Telling.{told, told_count};
 
-use crate::event::{Act, Event, Reason};
-use crate::stepping::step;
+use crate::event::{Act, Event, Reason, Telling};
+use crate::stepping::step_as;
 use row::{Command, len, tell};
 
 // How a command ended: how many numbers at the front of the output it showed; and that it was done, or why it was refused.
@@ -65,7 +65,7 @@ pub fn play_on(memory: &mut [u64], first: Result<Act, Reason>, out: &mut [u64]) 
             break;
         };
         shown = so_far;
-        answer = step(memory, Event::Next, out);
+        answer = step_as(memory, Event::Next, Telling::PassedOver, out);
     }
     end(answer, shown)
 }
@@ -78,7 +78,7 @@ pub fn play(memory: &mut [u64], command: Command, out: &mut [u64]) -> Played
     ensures firmer { WholeIn 3 own }
     ensures right { Plays }
 {
-    let first = step(memory, Event::Said(command), out);
+    let first = step_as(memory, Event::Said(command), Telling::PassedOver, out);
     play_on(memory, first, out)
 }
 

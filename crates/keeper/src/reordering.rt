@@ -1,9 +1,9 @@
 // The row is put right for a link that goes backward.
 ghost use Rattle.std.specs.Prelude.{◌≡◌, Ok};
-ghost use Rattle.keeper.specs.Answers.{Gives};
+ghost use Rattle.keeper.specs.Answers.{Gives, as_told};
 ghost use Rattle.keeper.specs.Reordering.{shown_round, moved, reordered};
 
-use crate::event::{Act, Reason};
+use crate::event::{Act, Reason, Telling};
 use crate::layout::{LINKS, Memory, Output};
 use crate::pending::Pending;
 use crate::telling::tell_part;
@@ -21,15 +21,16 @@ fn show_round(memory: &mut Memory, slots: Link, joint: Link, out: &mut Output) -
 }
 
 // Puts the link in, with the row settled for it, if there's room; tells the part of the row from `low` to `high`.
-#[tactic(auto, unfolding(crate::specs::Reordering::moved))]
+#[tactic(auto, using(crate::proofs::Writing::writing), unfolding(crate::specs::Answers::as_told, crate::specs::Reordering::moved))]
 fn move_cards(
     memory: &mut Memory,
     slots: Link,
     low: u64,
     high: u64,
+    telling: Telling,
     out: &mut Output,
 ) -> Result<Act, Reason>
-    ensures { Gives (moved memory.old slots low high) out.old result memory.new out.new }
+    ensures { Gives (as_told telling (moved memory.old slots low high)) out.old result memory.new out.new }
 {
     if links::len(memory) >= LINKS {
         forget(memory);
@@ -37,18 +38,23 @@ fn move_cards(
     }
     settle(memory);
     insert(memory, slots);
-    Ok(tell_part(memory, low, high.saturating_add(1), out))
+    Ok(tell_part(memory, low, high.saturating_add(1), telling, out))
 }
 
 // For a link between slots of which the second stands first: the row is settled for it, or it's refused with the way by which it would go round.
-#[tactic(auto, unfolding(crate::specs::Reordering::reordered))]
-pub(crate) fn reorder(memory: &mut Memory, slots: Link, out: &mut Output) -> Result<Act, Reason>
-    ensures { Gives (reordered memory.old slots) out.old result memory.new out.new }
+#[tactic(auto, using(crate::proofs::Writing::writing), unfolding(crate::specs::Answers::as_told, crate::specs::Reordering::reordered, crate::specs::Reordering::shown_round))]
+pub(crate) fn reorder(
+    memory: &mut Memory,
+    slots: Link,
+    telling: Telling,
+    out: &mut Output,
+) -> Result<Act, Reason>
+    ensures { Gives (as_told telling (reordered memory.old slots)) out.old result memory.new out.new }
 {
     let low = place_at(memory, slots.to);
     let high = place_at(memory, slots.from);
     if let Some(joint) = meet(memory, slots) {
         return Ok(show_round(memory, slots, joint, out));
     }
-    move_cards(memory, slots, low, high, out)
+    move_cards(memory, slots, low, high, telling, out)
 }

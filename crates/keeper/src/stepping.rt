@@ -1,13 +1,14 @@
 // One step of the keeper. As in `linking`, each check hands on its value or leaves with the refusal, by `let .. else`.
 ghost use Rattle.std.specs.Prelude.{◌≡◌, Ok};
 ghost use Rattle.row.specs.Moves.{came};
-ghost use Rattle.keeper.specs.Answers.{Gives, Ends};
+ghost use Rattle.keeper.specs.Answers.{Gives, Ends, as_told};
 ghost use Rattle.keeper.specs.Own.{ended, left, shown_places, said, went_on, answer, own, StepSays};
+ghost use Rattle.keeper.specs.Playing.{stepped, StepsTo};
 ghost use Rattle.keeper.specs.Promise.{Whole};
 ghost use Rattle.keeper.specs.Sister.{WholeIn};
 ghost use Rattle.keeper.specs.Sized.{Fits};
 
-use crate::event::{Act, Event, Reason};
+use crate::event::{Act, Event, Reason, Telling};
 use crate::layout::{Memory, Output};
 use crate::linking::{link, unlink};
 use crate::pending::Pending;
@@ -49,27 +50,32 @@ fn show_places(memory: &mut Memory, a: u64, b: u64, out: &mut Output) -> Result<
 }
 
 // A command is said.
-#[tactic(auto, unfolding(crate::specs::Own::said))]
-fn say(memory: &mut Memory, command: Command, out: &mut Output) -> Result<Act, Reason>
-    ensures { Gives (said memory.old command) out.old result memory.new out.new }
+#[tactic(auto, using(crate::proofs::Writing::writing), unfolding(crate::specs::Answers::as_told, crate::specs::Own::said))]
+fn say(
+    memory: &mut Memory,
+    command: Command,
+    telling: Telling,
+    out: &mut Output,
+) -> Result<Act, Reason>
+    ensures { Gives (as_told telling (said memory.old command)) out.old result memory.new out.new }
 {
     match command {
         Command::Comes(card) => arrive(memory, card),
         Command::Goes(card) => leave(memory, card),
-        Command::Link(pair) => link(memory, pair, out),
+        Command::Link(pair) => link(memory, pair, telling, out),
         Command::Unlink(pair) => unlink(memory, pair),
         Command::Places(a, b) => show_places(memory, a, b, out),
     }
 }
 
 // Goes on with the last command: more of the row, or its end.
-#[tactic(auto, unfolding(crate::specs::Own::went_on, crate::specs::Answers::still_to_come))]
-fn go_on(memory: &mut Memory, out: &mut Output) -> Result<Act, Reason>
-    ensures { Gives (went_on memory.old) out.old result memory.new out.new }
+#[tactic(auto, using(crate::proofs::Writing::writing), unfolding(crate::specs::Answers::as_told, crate::specs::Own::went_on, crate::specs::Answers::still_to_come))]
+fn go_on(memory: &mut Memory, telling: Telling, out: &mut Output) -> Result<Act, Reason>
+    ensures { Gives (as_told telling (went_on memory.old)) out.old result memory.new out.new }
 {
     let pending = Pending::of(memory);
     if let Some(Pending::More { from, to }) = pending {
-        return Ok(tell_part(memory, from, to, out));
+        return Ok(tell_part(memory, from, to, telling, out));
     }
     Pending::Nothing.note(memory);
     match pending {
@@ -79,25 +85,32 @@ fn go_on(memory: &mut Memory, out: &mut Output) -> Result<Act, Reason>
     }
 }
 
-// The answer to an event.
-#[tactic(auto, unfolding(crate::specs::Own::answer, crate::specs::Answers::still_to_come))]
-fn hear(memory: &mut Memory, event: Event, out: &mut Output) -> Result<Act, Reason>
-    ensures { Gives (answer memory.old event) out.old result memory.new out.new }
+// The answer to an event, from a memory and to an output that fit; what is told may be passed over.
+#[tactic(auto, using(crate::proofs::Writing::writing), unfolding(crate::specs::Answers::as_told, crate::specs::Own::answer, crate::specs::Answers::still_to_come))]
+pub fn hear(
+    memory: &mut Memory,
+    event: Event,
+    telling: Telling,
+    out: &mut Output,
+) -> Result<Act, Reason>
+    ensures { Gives (as_told telling (answer memory.old event)) out.old result memory.new out.new }
 {
     match event {
-        Event::Next => go_on(memory, out),
+        Event::Next => go_on(memory, telling, out),
         Event::Said(_) if Pending::of(memory) != Some(Pending::Nothing) => { Err(Reason::Busy) }
-        Event::Said(command) => say(memory, command, out),
+        Event::Said(command) => say(memory, command, telling, out),
     }
 }
 
-// One step: the answer to an event, the memory after it, and what is told or shown at the front of `out`. The engine whose steps these are meets the
-// promise, and its firmer sister within three steps; whatever stands in the memory, its answers fit.
-pub fn step(memory: &mut [u64], event: Event, out: &mut [u64]) -> Result<Act, Reason>
-    ensures says { StepSays memory.old event out.old result memory.new out.new }
-    ensures whole { Whole own }
-    ensures firmer { WholeIn 3 own }
-    ensures fits { Fits own }
+// One step as `step` takes it, but that what is told may be passed over.
+#[tactic(auto, using(crate::proofs::Fitting::fitting))]
+pub(crate) fn step_as(
+    memory: &mut [u64],
+    event: Event,
+    telling: Telling,
+    out: &mut [u64],
+) -> Result<Act, Reason>
+    ensures { StepsTo (stepped telling memory.old event out.old) result memory.new out.new }
 {
     let Some(memory) = memory.as_mut_array() else {
         return Err(Reason::Unfit);
@@ -105,5 +118,17 @@ pub fn step(memory: &mut [u64], event: Event, out: &mut [u64]) -> Result<Act, Re
     let Some(out) = out.first_chunk_mut() else {
         return Err(Reason::Unfit);
     };
-    hear(memory, event, out)
+    hear(memory, event, telling, out)
+}
+
+// One step: the answer to an event, the memory after it, and what is told or shown at the front of `out`. The engine whose steps these are meets the
+// promise, and its firmer sister within three steps; whatever stands in the memory, its answers fit.
+#[tactic(auto, using(crate::proofs::EngineSteps::engine_steps))]
+pub fn step(memory: &mut [u64], event: Event, out: &mut [u64]) -> Result<Act, Reason>
+    ensures says { StepSays memory.old event out.old result memory.new out.new }
+    ensures whole { Whole own }
+    ensures firmer { WholeIn 3 own }
+    ensures fits { Fits own }
+{
+    step_as(memory, event, Telling::Written, out)
 }

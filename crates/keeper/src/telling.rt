@@ -1,9 +1,9 @@
 // The row is told, some thousand cards at a time.
 ghost use Rattle.std.specs.Prelude.{◌≡◌, Ok};
-ghost use Rattle.keeper.specs.Answers.{Gives};
+ghost use Rattle.keeper.specs.Answers.{Gives, as_told};
 ghost use Rattle.keeper.specs.Telling.{told_part, left_to_tell};
 
-use crate::event::Act;
+use crate::event::{Act, Telling};
 use crate::layout::{Memory, Output, TOLD};
 use crate::pending::Pending;
 use row::{CARDS, tell};
@@ -22,12 +22,24 @@ fn note_rest(memory: &mut [u64], from: u64, to: u64)
 }
 
 // Tells the cards from the place `from` on, below `to`, at most TOLD of them.
-pub(crate) fn tell_part(memory: &mut Memory, from: u64, to: u64, out: &mut Output) -> Act
-    ensures { Gives (told_part memory.old from to) out.old (Ok result) memory.new out.new }
+pub(crate) fn tell_part(
+    memory: &mut Memory,
+    from: u64,
+    to: u64,
+    telling: Telling,
+    out: &mut Output,
+) -> Act
+    ensures { Gives (as_told telling (told_part memory.old from to)) out.old (Ok result) memory.new out.new }
 {
     let first = from.min(CARDS);
     let end = to.min(CARDS);
-    let n = tell(memory, first, end.saturating_sub(first).min(TOLD), out);
+    let n = end.saturating_sub(first).min(TOLD);
+    match telling {
+        Telling::Written => {
+            tell(memory, first, n, out);
+        }
+        Telling::PassedOver => {}
+    }
     note_rest(memory, first + n, end);
     Act::Tells(first, n)
 }

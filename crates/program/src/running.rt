@@ -1,5 +1,5 @@
 // Runs a program to its end.
-ghost use Rattle.std.specs.Prelude.{◌≡◌, ◌⊎◌, drop, List, ℕ, Ok, OnOk};
+ghost use Rattle.std.specs.Prelude.{◌≡◌, ◌⊎◌, ◌↔◌, drop, List, ℕ, Ok, IsOk, OnOk};
 ghost use Rattle.std.specs.Process.{exit_status};
 ghost use Rattle.std.specs.Vec.Iter.{into_iter_items};
 ghost use Rattle.program.specs.Words.{Asks};
@@ -54,7 +54,14 @@ impl<'a> Program<'a> {
         requires { F.IsAlwaysCallable work }
         ensures { exit_status result ≡ 0 → (ws : _) × (words ≡ Ok ws) × ((Asks (drop 1 (into_iter_items ws)) (Ok Help)) ⊎ ((bytes : _) × F.post work rt.entry bytes (Ok tt))) }
     {
-        let Err(e) = self.obey(rt, words, work) else {
+        self.end(rt, self.obey(rt, words, work))
+    }
+
+    // How it ends: if it didn't go well, standard error says why.
+    pub fn end(&self, rt: &HostRuntime, went: anyhow::Result<()>) -> ExitCode
+        ensures { (exit_status result ≡ 0) ↔ IsOk went }
+    {
+        let Err(e) = went else {
             return ExitCode::SUCCESS;
         };
         let name = self.name;

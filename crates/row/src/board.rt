@@ -4,6 +4,7 @@ ghost use Rattle.row.specs.Commands.{number};
 
 // The card `from` has to stand before the card `to`.
 #[derive(Clone, Copy, Debug, PartialEq, Eq)]
+#[repr(C)]
 pub struct Link {
     pub from: u64,
     pub to: u64,

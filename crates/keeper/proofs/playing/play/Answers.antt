@@ -12,7 +12,7 @@ returns c =
     record {
       went =
           subst (λ (e : Ending). Went e c.play_on.result c.play_on.new.memory c.play_on.new.out)
-          (sym (plays_on a.memory.now (Said a.command) a.out.now _ _ _ 0 c.step-first.ensures.says 2)) c.play_on.ensures;
+          (sym (plays_on a.memory.now (Said a.command) a.out.now _ _ _ 0 c.step_as-first.ensures 2)) c.play_on.ensures;
       whole = whole_own;
       firmer = whole_in_own;
       right = plays_right;
