@@ -3,10 +3,10 @@ use crate::bench::Bench;
 use crate::circles;
 use crate::dice::Dice;
 use crate::kind::Kind;
-use crate::layout::OUT;
 use crate::plausible::{dent, fill_all};
 use crate::sound::play_some;
 use crate::tallies::set_tallies;
+use links::OUT;
 use row::CARDS;
 use std::alloc::AllocError;
 

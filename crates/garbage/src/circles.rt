@@ -1,11 +1,10 @@
 // A memory in which all chains go round through all entries.
 use crate::bench::Bench;
 use crate::dice::Dice;
-use crate::layout::{CHAINS, COUNT, END, FRESH, FROM, IN, LIVE, OUT, PAIR, TO};
 use crate::plausible::card_of;
 use keeper::LINKS;
-use links::ENTRIES;
-use row::{CARDS, Column, Family, IDS, Link, TALLY, seat};
+use links::{END, ENTRIES, FROM, IN, LIVE, OUT, PAIR, TO};
+use row::{CARDS, CHAINS, COUNT, Column, FRESH, Family, IDS, Link, TALLY, seat};
 use search::{FORE, HIND};
 
 // Where the links lead: nowhere, since all are dead; from any slot to any; or from odd slots to even ones, but for the first and the last MARGIN slots, so that

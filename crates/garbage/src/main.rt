@@ -8,7 +8,6 @@ mod counting;
 mod dice;
 mod events;
 mod kind;
-mod layout;
 mod lengths;
 mod plausible;
 mod sound;

@@ -1,8 +1,7 @@
 // What may stand in the columns of a sound memory.
 use crate::dice::Dice;
-use crate::layout::{CHAINS, FROM, IN, OUT, PAIR, TO};
-use links::ENTRIES;
-use row::{CARDS, Column, IDS, PLACES, SLOTS};
+use links::{ENTRIES, FROM, IN, OUT, PAIR, TO};
+use row::{CARDS, CHAINS, Column, IDS, PLACES, SLOTS};
 use search::{FORE, HIND};
 
 // The card whose bucket has the number of the slot: the buckets are the fronts of the cards' numbers spread by a factor, and this undoes it.

@@ -1,9 +1,8 @@
 // The single numbers of a memory, so that it isn't refused at once.
 use crate::dice::Dice;
-use crate::layout::{COUNT, END, FRESH, LIVE};
 use keeper::{LINKS, Pending};
-use links::ENTRIES;
-use row::{CARDS, TALLY};
+use links::{END, ENTRIES, LIVE};
+use row::{CARDS, COUNT, FRESH, TALLY};
 
 // A small number, mostly; or one below a limit, at it, near it, or any.
 fn about(limit: u64, dice: &mut Dice) -> u64 {
