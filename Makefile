@@ -1,4 +1,4 @@
-.PHONY: run test beside
+.PHONY: run test beside bench
 
 # Proves and builds the board program, and plays a sample of sayings.
 run:
@@ -15,3 +15,9 @@ COUNT = 10000000
 beside:
 	cd crates/beside && rt run -- $(SEED) 0 </dev/null >/dev/null
 	crates/beside/out/beside $(SEED) $(COUNT)
+
+# The keeper beside other libraries, which bench/Makefile names: measures all, and writes docs/SPEED.md and docs/speed.svg. With WORD, measures the workloads
+# whose name has it, and writes nothing.
+bench:
+	cd crates/keeper_c && rt lib
+	$(MAKE) -C bench measure WORD="$(WORD)"

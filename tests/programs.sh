@@ -15,6 +15,7 @@ build() {
 build board <crates/board/stdin
 build verify <crates/verify/stdin
 build beside -- 1 0 </dev/null
+build garbage -- --help </dev/null
 passed=0
 failed=0
 out=$(mktemp)
@@ -48,6 +49,12 @@ helps() {
   run "$1" '' --help
   sed -i 1q "$out"
   expect "$1: help" 0 "usage: $1 $2"$'\n' none
+}
+
+# misses [WORDS..]: words that ask 'garbage' for nothing.
+misses() {
+  run garbage '' "$@"
+  expect "garbage: bad words: $*" 1 '' 'the words are SEED COUNT, two numbers; see garbage --help'
 }
 
 two='\x00\x01\x00\x00\x02\x00'
@@ -124,6 +131,16 @@ expect 'beside: a seed that is no number' 1 '' 'the seed has to be a number belo
 run beside '' 1 -2
 expect 'beside: so many sayings as there are not' 1 '' 'the number of sayings has to be a number below 2^64; see beside --help'
 helps beside 'SEED COUNT'
+
+misses
+misses 1
+misses 1 many
+misses few 10
+misses 1 -1
+misses 1 10 100
+misses worst 1
+misses --help 1
+helps garbage 'SEED COUNT'
 
 (cd crates/keeper_c && rt lib) >/dev/null 2>&1 &&
   "${CC:-cc}" -std=c11 -Wall -Wextra -Werror -I include tests/keeper.c crates/keeper_c/out/libkeeper_c.a -o "$in_c" >"$out" 2>"$err" &&

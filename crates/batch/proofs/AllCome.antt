@@ -14,7 +14,7 @@ use Rattle.links.specs.Meaning.{edges}
 use Rattle.search.specs.Layout.{fore}
 use Rattle.search.specs.Marks.{marked, first_mark}
 use Rattle.search.specs.MarkLaws.{Summed, Least}
-use Rattle.search.specs.Meaning.{seat}
+use Rattle.search.specs.Meaning.{slot_on}
 use Rattle.search.proofs.Upward.{first_of_all}
 use Rattle.search.proofs.Listed.{head_of, from_least, from_list, lists_filter}
 use Rattle.search.proofs.RowPlaces.{slot_one}
@@ -47,10 +47,10 @@ module _ (m : List ℕ) (T : Tidy m) where
     least : Least (marked n fore) (first_mark n fore)
     least = first_of_all n fore D.waiting.summed
 
-    mark_is : (p : ℕ) → 0 ≤ p → p < 0 + count m → marked n fore p ≡ (has left (seat m p) && not (waits ls left (seat m p)))
+    mark_is : (p : ℕ) → 0 ≤ p → p < 0 + count m → marked n fore p ≡ (has left (slot_on m p) && not (waits ls left (slot_on m p)))
     mark_is p l u =
-        let w = many_any (λ (y : Link). eqb y.to (seat m p) && has left y.from) ls in
-        D.waiting.marks_are p ∙ rw (lt-ltb p (count m) (omega arith), not_not (waits ls left (seat m p)) (eqb (into m T left (seat m p)) 0) w) refl
+        let w = many_any (λ (y : Link). eqb y.to (slot_on m p) && has left y.from) ls in
+        D.waiting.marks_are p ∙ rw (lt-ltb p (count m) (omega arith), not_not (waits ls left (slot_on m p)) (eqb (into m T left (slot_on m p)) 0) w) refl
 
     unmarked_behind : (p : ℕ) → 0 + count m ≤ p → marked n fore p ≡ false
     unmarked_behind p l = D.waiting.marks_are p ∙ rw (le-ltb p (count m) (omega arith)) refl
@@ -61,10 +61,10 @@ module _ (m : List ℕ) (T : Tidy m) where
         (lists_filter (marked n fore) 0 0 (count m) (omega arith) (λ r a b. absurd (omega arith)) unmarked_behind)
         (from_least (marked n fore) (marked n fore) (first_mark n fore) (λ r. refl) least)
 
-    free_is : first_free ls left left ≡ given (first_mark n fore) None (λ p. Some (seat m p))
+    free_is : first_free ls left left ≡ given (first_mark n fore) None (λ p. Some (slot_on m p))
     free_is =
-        ap (first_free ls left) D.part ∙ first_by_place ls left (seat m) (marked n fore) 0 (count m) mark_is
-        ∙ ap (λ (o : Option ℕ). given o None (λ p. Some (seat m p))) (sym first_is)
+        ap (first_free ls left) D.part ∙ first_by_place ls left (slot_on m) (marked n fore) 0 (count m) mark_is
+        ∙ ap (λ (o : Option ℕ). given o None (λ p. Some (slot_on m p))) (sym first_is)
 
   -- what is so when no more come: xs came, after i others
   pub record Came (n : List ℕ) (i : ℕ) (xs : List ℕ) (y : Renewed) : Type 0 where
@@ -92,13 +92,13 @@ module _ (m : List ℕ) (T : Tidy m) where
     all = record { memory = n; came = i }
 
     by_mark : (o : Option ℕ) → first_mark n fore ≡ o →
-        Came n i (given (given o None (λ p. Some (seat m p))) [] (λ k. k ∷ by_rule f ls (without left k))) (given o all (λ p. renewing f (drawn n p i) (i + 1)))
+        Came n i (given (given o None (λ p. Some (slot_on m p))) [] (λ k. k ∷ by_rule f ls (without left k))) (given o all (λ p. renewing f (drawn n p i) (i + 1)))
     by_mark None e = came_none left n D i (subst (Least (marked n fore)) e (least left n D))
     by_mark (Some p) e =
         let mark : marked n fore p ≡ true = (subst (Least (marked n fore)) e (least left n D)).0 in
         let w = draws m T left n D p i mark in
-        let fewer = length_without left (seat m p) (left_once left n D) (is_free m T left n D p mark).1 in
-        let y = rest (without left (seat m p)) (drawn n p i) (i + 1) w.next (omega arith) (omega arith) in
+        let fewer = length_without left (slot_on m p) (left_once left n D) (is_free m T left n D p mark).1 in
+        let y = rest (without left (slot_on m p)) (drawn n p i) (i + 1) w.next (omega arith) (omega arith) in
         record {
           as_many = omega (arith, y.as_many);
           wrote = ap₂ ◌∷◌ (y.kept i (omega arith) ∙ w.here (omega arith)) y.wrote;

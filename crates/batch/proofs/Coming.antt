@@ -19,7 +19,7 @@ use Rattle.links.specs.Entries.{link_at}
 use Rattle.links.specs.Meaning.{edges, lives}
 use Rattle.search.specs.Layout.{fore}
 use Rattle.search.specs.Marks.{marked}
-use Rattle.search.specs.Meaning.{seat}
+use Rattle.search.specs.Meaning.{slot_on}
 use Rattle.search.proofs.RowPlaces.{slot_one}
 use Rattle.batch.specs.Layout.{leaves}
 use Rattle.batch.specs.Rule.{waits, without}
@@ -41,7 +41,7 @@ module _ (m : List ℕ) (T : Tidy m) where
 
   -- the places of what is left
   abbrev pub where_left : List ℕ → ℕ → Bool
-  where_left left p = ltb p (count m) && has left (seat m p)
+  where_left left p = ltb p (count m) && has left (slot_on m p)
 
   pub record Drawing (left n : List ℕ) : Type 0 where
     pub waiting : Waiting m T (where_left left) (into left) n
@@ -51,7 +51,7 @@ module _ (m : List ℕ) (T : Tidy m) where
 
   module _ (left n : List ℕ) (D : Drawing left n) (p : ℕ) (mark : marked n fore p ≡ true) where
     abbrev s : ℕ
-    s = seat m p
+    s = slot_on m p
 
     pub is_free : (p < count m) × (has left s ≡ true) × (into left s ≡ 0)
     is_free =
@@ -123,14 +123,14 @@ module _ (m : List ℕ) (T : Tidy m) where
     -- a place less is marked
     pub place_less : (x : ℕ) → (where_left left x && not (eqb x p)) ≡ where_left left' x
     place_less x =
-        let w = has_without left s (seat m x) in
+        let w = has_without left s (slot_on m x) in
         elim (cases_lt x (count m)) [
           | inl l ↦ elim (cases_eq x p) [
-            | inl e ↦ rw (w, eq-eqb x p e, eq-eqb (seat m x) s (ap (seat m) e)) (grind arith)
-            | inr e ↦ rw (w, ne_eqb x p e, ne_eqb (seat m x) s (λ z. e (slot_one m S x p l is_free.0 z))) (grind arith)
+            | inl e ↦ rw (w, eq-eqb x p e, eq-eqb (slot_on m x) s (ap (slot_on m) e)) (grind arith)
+            | inr e ↦ rw (w, ne_eqb x p e, ne_eqb (slot_on m x) s (λ z. e (slot_one m S x p l is_free.0 z))) (grind arith)
           ]
           | inr l ↦ rw (le-ltb x (count m) l)
         ]
 
     pub inside : (q : ℕ) → where_left left' q ≡ true → q < count m
-    inside q h = ltb-true q (count m) (and_parts (ltb q (count m)) (has left' (seat m q)) h).0
+    inside q h = ltb-true q (count m) (and_parts (ltb q (count m)) (has left' (slot_on m q)) h).0

@@ -13,7 +13,7 @@ use Rattle.links.proofs.Stepping.{at_head}
 use Rattle.search.specs.Layout.{fore}
 use Rattle.search.specs.Marks.{marked, removed}
 use Rattle.search.specs.MarkLaws.{Only}
-use Rattle.search.specs.Meaning.{seat}
+use Rattle.search.specs.Meaning.{slot_on}
 use Rattle.search.proofs.Adding.{removing}
 use Rattle.search.proofs.Frames.{only_removed}
 use Rattle.search.proofs.Sounding.{marked_same, summed_same}
@@ -31,7 +31,7 @@ and_swap a b c d e = grind arith
 
 module _ (m : List ℕ) (T : Tidy m) (left n : List ℕ) (D : Drawing m T left n) (p i : ℕ) (mark : marked n fore p ≡ true) where
   abbrev s : ℕ
-  s = seat m p
+  s = slot_on m p
 
   abbrev left' : List ℕ
   left' = without left s
@@ -75,7 +75,7 @@ module _ (m : List ℕ) (T : Tidy m) (left n : List ℕ) (D : Drawing m T left n
             cell_apart n₂ leaves awaits s t 0 refl ∙ cell_apart n₁ spare awaits i t s refl ∙ unmarked.others awaits t refl ∙ D.waiting.awaits_are t h;
         marks_are = λ x.
             marked_same n₁ n₃ fore fore_same x ∙ r.1 x ∙ ap (λ (b : Bool). b && not (eqb x p)) (D.waiting.marks_are x)
-            ∙ and_swap (where_left m T left x) (eqb (into m T left (seat m x)) 0) (not (eqb x p)) (where_left m T left' x) (place_less m T left n D p mark x);
+            ∙ and_swap (where_left m T left x) (eqb (into m T left (slot_on m x)) 0) (not (eqb x p)) (where_left m T left' x) (place_less m T left n D p mark x);
       }
 
   -- its links are followed, as many as were counted

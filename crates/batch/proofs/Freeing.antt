@@ -16,7 +16,7 @@ use Rattle.links.specs.Meaning.{edges, Holds}
 use Rattle.search.specs.Layout.{fore}
 use Rattle.search.specs.Marks.{marked}
 use Rattle.search.specs.MarkLaws.{Summed}
-use Rattle.search.specs.Meaning.{seat}
+use Rattle.search.specs.Meaning.{slot_on}
 use Rattle.search.proofs.Adding.{adding}
 use Rattle.search.proofs.Sounding.{marked_same, summed_same}
 use Rattle.search.proofs.Exchanged.{with_at, at_here, at_else}
@@ -68,14 +68,14 @@ module _ (m : List ℕ) (T : Tidy m) where
     pub beside : Beside Else m n
     pub summed : Summed n fore
     pub awaits_are : (s : ℕ) → s < 8192 → cell n awaits s ≡ A s
-    pub marks_are : (p : ℕ) → marked n fore p ≡ (G p && eqb (A (seat m p)) 0)
+    pub marks_are : (p : ℕ) → marked n fore p ≡ (G p && eqb (A (slot_on m p)) 0)
 
   pub waiting_same : (G H : ℕ → Bool) (A B : ℕ → ℕ) (n : List ℕ) → ((p : ℕ) → G p ≡ H p) → ((s : ℕ) → A s ≡ B s) → Waiting G A n → Waiting H B n
   waiting_same G H A B n g a W = record {
     beside = W.beside;
     summed = W.summed;
     awaits_are = λ s h. W.awaits_are s h ∙ a s;
-    marks_are = λ p. W.marks_are p ∙ ap₂ (λ (x : Bool) (y : ℕ). x && eqb y 0) (g p) (a (seat m p));
+    marks_are = λ p. W.marks_are p ∙ ap₂ (λ (x : Bool) (y : ℕ). x && eqb y 0) (g p) (a (slot_on m p));
   }
 
   -- a slot waits for one fewer
@@ -111,17 +111,17 @@ module _ (m : List ℕ) (T : Tidy m) where
     summed_then = summed_same n n₁ fore fore_same (length_written n awaits t (cell n awaits t - 1)) W.summed
 
     -- the mark of each place then
-    mark_here : (x : ℕ) → x ≡ q → (eqb a 0 || (G x && eqb (A (seat m x)) 0)) ≡ (G x && eqb (with_at A t a (seat m x)) 0)
+    mark_here : (x : ℕ) → x ≡ q → (eqb a 0 || (G x && eqb (A (slot_on m x)) 0)) ≡ (G x && eqb (with_at A t a (slot_on m x)) 0)
     mark_here x i =
-        let s : seat m x ≡ t = ap (seat m) i ∙ (used_place m S t u).1 in
-        rw (ap G i ∙ g, at_here A t a (seat m x) s, ap A s ∙ e) (grind (arith, nat_tests))
+        let s : slot_on m x ≡ t = ap (slot_on m) i ∙ (used_place m S t u).1 in
+        rw (ap G i ∙ g, at_here A t a (slot_on m x) s, ap A s ∙ e) (grind (arith, nat_tests))
 
-    mark_else : (x : ℕ) → (x ≡ q → ⊥) → (G x && eqb (A (seat m x)) 0) ≡ (G x && eqb (with_at A t a (seat m x)) 0)
+    mark_else : (x : ℕ) → (x ≡ q → ⊥) → (G x && eqb (A (slot_on m x)) 0) ≡ (G x && eqb (with_at A t a (slot_on m x)) 0)
     mark_else x ne = elim (cases_Bool (G x)) [
       | inl i ↦
           let l = inside x i in
           let back = (S.stands.slot_at x (omega (arith, l, S.stands.few))).1 in
-          ap (λ (y : ℕ). G x && eqb y 0) (sym (at_else A t a (seat m x) (λ z. ne (sym back ∙ ap (cell m places) z))))
+          ap (λ (y : ℕ). G x && eqb y 0) (sym (at_else A t a (slot_on m x) (λ z. ne (sym back ∙ ap (cell m places) z))))
       | inr i ↦ rw i refl
     ]
 
@@ -148,7 +148,7 @@ module _ (m : List ℕ) (T : Tidy m) where
 
   frees_one : (A : ℕ → ℕ) (n : List ℕ) (i : ℕ) → i < count m → Waiting (first i) A n → Waiting (first (suc i)) A (freed n (cell n slots i))
   frees_one A n i h W =
-      let t = seat m i in
+      let t = slot_on m i in
       let at = S.stands.slot_at i (omega (arith, S.stands.few)) in
       let e : cell n slots i ≡ t = W.beside.others slots i (refl, refl, refl, refl) in
       let w : cell n places t ≡ i = W.beside.others places t (refl, refl, refl, refl) ∙ at.1 in
@@ -159,7 +159,7 @@ module _ (m : List ℕ) (T : Tidy m) where
         beside = beside_on Else m n (freed n t) W.beside b;
         summed = f.0;
         awaits_are = λ s l. (beside_freed (λ (d : Column). apart fore d ≡ true) (λ d t. t) n t).others awaits s refl ∙ W.awaits_are s l;
-        marks_are = λ x. f.1 x ∙ rw (w, v, W.marks_are x) (one_more (λ (p : ℕ). eqb (A (seat m p)) 0) i x);
+        marks_are = λ x. f.1 x ∙ rw (w, v, W.marks_are x) (one_more (λ (p : ℕ). eqb (A (slot_on m p)) 0) i x);
       })
 
   frees_on : (A : ℕ → ℕ) (f : ℕ) (n : List ℕ) (i : ℕ) → i + f ≡ count m → Waiting (first i) A n → Waiting (first (count m)) A (freed_all f n i)

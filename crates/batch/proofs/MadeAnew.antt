@@ -26,7 +26,7 @@ use Rattle.links.proofs.Sameness.{edges_alike, tabled_alike}
 use Rattle.search.specs.Layout.{fore}
 use Rattle.search.specs.Marks.{marked}
 use Rattle.search.specs.MarkLaws.{Summed}
-use Rattle.search.specs.Meaning.{seat}
+use Rattle.search.specs.Meaning.{slot_on}
 use Rattle.search.proofs.Sounding.{marked_same, summed_same}
 use Rattle.keeper.proofs.Carrying.{links_same}
 use Rattle.batch.specs.Layout.{spare, leaves}
@@ -104,7 +104,7 @@ module _ (m : List ℕ) (long : leaves.base + leaves.size ≤ length m) (S : Sta
   -- and marked what waits for none
   everywhere : (p : ℕ) → ltb p (count m₁) ≡ where_left m₁ tidy row p
   everywhere p = elim (cases_lt p (count m₁)) [
-    | inl l ↦ rw (lt-ltb p (count m₁) l) (sym (has_made (cell m₁ slots) 0 (count m₁) (seat m₁ p) p (omega arith) (omega arith) refl))
+    | inl l ↦ rw (lt-ltb p (count m₁) l) (sym (has_made (cell m₁ slots) 0 (count m₁) (slot_on m₁ p) p (omega arith) (omega arith) refl))
     | inr l ↦ rw (le-ltb p (count m₁) l)
   ]
 

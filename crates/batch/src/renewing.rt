@@ -10,7 +10,7 @@ ghost use Rattle.batch.specs.Renewing.{lessened, next_by, left_by, released, let
 
 use crate::layout::{LEAVES, SPARE, WAITS};
 use crate::seating::row_len;
-use links::{Chain, ENTRIES, Meeting, from_of, rebuild, step, to_of};
+use links::{Chain, ENTRIES, Meeting, from_of, rebuild, take_step, to_of};
 use row::{CARDS, Column, PLACES, SLOTS};
 use search::FORE;
 
@@ -101,7 +101,7 @@ fn release_one(memory: &mut [u64], pointer: u64) -> Option<u64>
     ensures is { result ≡ next_by pointer (met memory.old Out pointer) }
     ensures after { memory.new ≡ left_by (stepped memory.old Out pointer) (met memory.old Out pointer) }
 {
-    match step(memory, Chain::Out, pointer) {
+    match take_step(memory, Chain::Out, pointer) {
         Meeting::End => None,
         Meeting::Dead => Some(pointer),
         Meeting::Living { entry, next } => {

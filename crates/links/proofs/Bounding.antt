@@ -13,7 +13,7 @@ use Rattle.links.specs.Layout.{live, end, pointers, heads, froms, tos}
 use Rattle.links.specs.Chains.{dead, followed, stepped, pushed}
 use Rattle.links.specs.Entries.{key, link_at, found, buried}
 use Rattle.links.specs.Building.{set_down, hung, added, appended, blanked, headless, emptied, carried, refilled, rebuilt, roomy, inserted}
-use Rattle.links.specs.Removing.{settled, removed, struck, cleared, removed_all}
+use Rattle.links.specs.Removing.{compacted, removed, struck, cleared, removed_all}
 use Rattle.links.specs.Frames.{words}
 use Rattle.links.specs.Laws.{WritesOnly, WritesWords}
 use Rattle.links.proofs.Framing.{word_cell, own_from, own_to, own_pointers, Kept, kept_refl, kept_trans, kept_written, kept_live, kept_end, kept_cond, kept_given}
@@ -99,13 +99,13 @@ module _ (P : Type 0) where
   pub kept_inserted : (m : List ℕ) (x : Link) → (P → (x.from < 18446744073709551616) × (x.to < 18446744073709551616)) → Kept P m (inserted m x)
   kept_inserted m x s = kept_trans P m (roomy m) (appended (roomy m) x) (kept_roomy m) (kept_appended (roomy m) x (λ q w. s q))
 
-  kept_settled : (m : List ℕ) → Kept P m (settled m)
-  unfolding settled
-  kept_settled m = kept_cond P m _ (rebuilt m) m (λ t. kept_rebuilt m) (λ t. kept_refl P m)
+  kept_compacted : (m : List ℕ) → Kept P m (compacted m)
+  unfolding compacted
+  kept_compacted m = kept_cond P m _ (rebuilt m) m (λ t. kept_rebuilt m) (λ t. kept_refl P m)
 
-  kept_outcome : (m : List ℕ) (o : Option ℕ) → Kept P m (given o (refused m Missing) (λ l. record { answer = Ok l; memory = settled (buried m l) })).memory
+  kept_outcome : (m : List ℕ) (o : Option ℕ) → Kept P m (given o (refused m Missing) (λ l. record { answer = Ok l; memory = compacted (buried m l) })).memory
   kept_outcome m None = kept_refl P m
-  kept_outcome m (Some l) = kept_trans P m (buried m l) (settled (buried m l)) (kept_buried m l) (kept_settled (buried m l))
+  kept_outcome m (Some l) = kept_trans P m (buried m l) (compacted (buried m l)) (kept_buried m l) (kept_compacted (buried m l))
 
   pub kept_removed : (m : List ℕ) (x : Link) → Kept P m (removed m x).memory
   unfolding removed
@@ -125,7 +125,7 @@ module _ (P : Type 0) where
   kept_removed_all m s =
       let n₁ = cleared m Out s in
       let n₂ = cleared n₁ In s in
-      kept_trans P m n₂ (settled n₂) (kept_trans P m n₁ n₂ (kept_cleared m Out s) (kept_cleared n₁ In s)) (kept_settled n₂)
+      kept_trans P m n₂ (compacted n₂) (kept_trans P m n₁ n₂ (kept_cleared m Out s) (kept_cleared n₁ In s)) (kept_compacted n₂)
 
 -- the laws
 pub writes_only : WritesOnly

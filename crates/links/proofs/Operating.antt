@@ -13,7 +13,7 @@ use Rattle.links.specs.Layout.{live, end}
 use Rattle.links.specs.Chains.{dead}
 use Rattle.links.specs.Entries.{key, link_at, joins, found, buried}
 use Rattle.links.specs.Building.{roomy}
-use Rattle.links.specs.Removing.{settled, removed, cleared, removed_all}
+use Rattle.links.specs.Removing.{compacted, removed, cleared, removed_all}
 use Rattle.links.specs.Meaning.{edges, edges_of, once, Tabled}
 use Rattle.links.specs.Laws.{Counts, Inserts, Finds, Removes, RemovesAll, Rebuilds, StaysOnce, Gives}
 use Rattle.links.proofs.Edging.{append_none}
@@ -36,9 +36,9 @@ tabled_roomy m t b = elim (cases_lt (end m) 67584) [
   | inr h ↦ let r = rebuilds m t in rw (le-ltb (end m) 67584 h) (r.0, r.1, omega (arith, r.2))
 ]
 
-tabled_settled : (m : List ℕ) → Tabled m → Tabled (settled m) × (edges (settled m) ≡ edges m)
-unfolding settled
-tabled_settled m t = elim (cases_Bool (ltb (live m) (end m - live m - 1024))) [
+tabled_compacted : (m : List ℕ) → Tabled m → Tabled (compacted m) × (edges (compacted m) ≡ edges m)
+unfolding compacted
+tabled_compacted m t = elim (cases_Bool (ltb (live m) (end m - live m - 4096))) [
   | inl h ↦ let r = rebuilds m t in rw h (r.0, r.1)
   | inr h ↦ rw h (t, refl)
 ]
@@ -80,7 +80,7 @@ removed_none : (m : List ℕ) (x : Link) → found m x ≡ None → removed m x 
 unfolding removed
 removed_none m x e = rw e refl
 
-removed_some : (m : List ℕ) (x : Link) (l : ℕ) → found m x ≡ Some l → removed m x ≡ record { answer = Ok l; memory = settled (buried m l) }
+removed_some : (m : List ℕ) (x : Link) (l : ℕ) → found m x ≡ Some l → removed m x ≡ record { answer = Ok l; memory = compacted (buried m l) }
 unfolding removed
 removed_some m x l e = rw e refl
 
@@ -98,11 +98,11 @@ module _ (m : List ℕ) (x : Link) (t : Tabled m) (o : once (edges m) ≡ true) 
       let n = sym (found_linked m t.was t.holds x b) ∙ ap is_some e in
       (t, sym (filter_all (joins x) (edges m) n), sym n, λ z. refl)
 
-  gone_some : (l : ℕ) → found m x ≡ Some l → Gone (record { answer = Ok l; memory = settled (buried m l) })
+  gone_some : (l : ℕ) → found m x ≡ Some l → Gone (record { answer = Ok l; memory = compacted (buried m l) })
   gone_some l e =
       let n = sym (found_linked m t.was t.holds x b) ∙ ap is_some e in
       let f = found_there m t.was t.holds x b l e in
-      let s = tabled_settled (buried m l) (record { was = t.was; holds = holds_buried m t.was t.holds l f.0 }) in
+      let s = tabled_compacted (buried m l) (record { was = t.was; holds = holds_buried m t.was t.holds l f.0 }) in
       let d = edges_buried m t.was t.holds l f.0 f.1 o in
       (s.0, s.1 ∙ d ∙ ap (λ (z : Link). filter (λ y. not (joins z y)) (edges m)) f.2, sym n, λ z. absurd (true≢false (sym n ∙ z)))
 
@@ -115,14 +115,14 @@ module _ (m : List ℕ) (x : Link) (t : Tabled m) (o : once (edges m) ≡ true) 
 pub removes : Removes
 removes m x t o b = gone m x t o b
 
-removed_all_is : (m : List ℕ) (s : ℕ) → removed_all m s ≡ settled (cleared (cleared m Out s) In s)
+removed_all_is : (m : List ℕ) (s : ℕ) → removed_all m s ≡ compacted (cleared (cleared m Out s) In s)
 unfolding removed_all
 removed_all_is m s = refl
 
 pub removes_all : RemovesAll
 removes_all m s t b =
     let n = cleared (cleared m Out s) In s in
-    let r = tabled_settled n (record { was = t.was; holds = holds_cleared m t.was t.holds s b }) in
+    let r = tabled_compacted n (record { was = t.was; holds = holds_cleared m t.was t.holds s b }) in
     rw (removed_all_is m s) (r.0, r.1 ∙ edges_cleared m t.was t.holds s b)
 
 -- no link twice

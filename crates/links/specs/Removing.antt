@@ -1,6 +1,6 @@
 -- Links are taken out of the table, as the code goes.
 --
---   settled m         the table built again, if too many of it are dead
+--   compacted m       the table built again, if too many of it are dead
 --   removed m x       a link taken out: the answer, and the memory after it
 --   struck f m c p    f entries of a chain marked dead, from a pointer on
 --   cleared m c s     all of a slot's chain marked dead, and the chain emptied
@@ -18,11 +18,11 @@ use Rattle.links.specs.Chains.{followed}
 use Rattle.links.specs.Entries.{found, buried}
 use Rattle.links.specs.Building.{rebuilt}
 
-unfoldable pub settled : List ℕ → List ℕ
-settled m = cond (nat_lt (live m) (end m - live m - 1024)) (rebuilt m) m
+unfoldable pub compacted : List ℕ → List ℕ
+compacted m = cond (nat_lt (live m) (end m - live m - 4096)) (rebuilt m) m
 
 unfoldable pub removed : List ℕ → Link → Outcome
-removed m x = given (found m x) (refused m Missing) (λ l. record { answer = Ok l; memory = settled (buried m l) })
+removed m x = given (found m x) (refused m Missing) (λ l. record { answer = Ok l; memory = compacted (buried m l) })
 
 unfoldable pub struck : ℕ → List ℕ → Chain → ℕ → List ℕ
 struck zero m c p = m
@@ -32,4 +32,4 @@ unfoldable pub cleared : List ℕ → Chain → ℕ → List ℕ
 cleared m c s = written (struck 67584 m c s) (pointers c) s 0
 
 unfoldable pub removed_all : List ℕ → ℕ → List ℕ
-removed_all m s = settled (cleared (cleared m Out s) In s)
+removed_all m s = compacted (cleared (cleared m Out s) In s)

@@ -4,8 +4,8 @@ ghost use Rattle.links.specs.Building.{appended, emptied, carried, rebuilt, room
 
 use crate::entries::{from_of, len, to_of, used};
 use crate::finding::bucket_of;
-use crate::layout::{END, ENTRIES, FROM, IN, LIVE, OUT, PAIR, SLOTS, TO};
-use row::{Link, TALLY};
+use crate::layout::{END, ENTRIES, FROM, IN, LIVE, OUT, PAIR, TO};
+use row::{CARDS, Link, TALLY};
 
 // Puts a link at the table's end, and in front of its chains; nothing if the table is full.
 #[tactic(auto, unfolding(crate::specs::Building::appended, crate::specs::Building::added, crate::specs::Building::hung, crate::specs::Building::set_down, crate::specs::Chains::pushed))]
@@ -44,7 +44,7 @@ fn carry(memory: &mut [u64], entry: u64)
     ensures { memory.new ≡ carried memory.old entry }
 {
     let from = from_of(memory, entry);
-    if from < SLOTS {
+    if from < CARDS {
         let to = to_of(memory, entry);
         append(memory, Link { from, to });
     }

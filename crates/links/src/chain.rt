@@ -4,8 +4,8 @@ ghost use Rattle.std.specs.Prelude.{◌≡◌};
 ghost use Rattle.links.specs.Layout.{pointers, heads};
 ghost use Rattle.links.specs.Chains.{met, stepped};
 
-use crate::layout::{FROM, IN, OUT, PAIR, SLOTS};
-use row::{Entry, Family};
+use crate::layout::{FROM, IN, OUT, PAIR};
+use row::{CARDS, Entry, Family};
 
 // A family of chains: the links out of each slot, those into each slot, and those of each bucket of pairs.
 #[derive(Clone, Copy, Debug, PartialEq, Eq)]
@@ -41,7 +41,7 @@ pub enum Meeting {
 // One step of a walk that stands at a pointer. A walk through a chain begins at its head, which is the pointer with the number of its key: the slot.
 // Behind a dead entry it goes on where it stands.
 #[tactic(auto, unfolding(crate::specs::Chains::followed, crate::specs::Chains::met, crate::specs::Chains::stepped))]
-pub fn step(memory: &mut [u64], chain: Chain, pointer: u64) -> Meeting
+pub fn take_step(memory: &mut [u64], chain: Chain, pointer: u64) -> Meeting
     ensures is { result ≡ met memory.old chain pointer }
     ensures after { memory.new ≡ stepped memory.old chain pointer }
 {
@@ -49,7 +49,7 @@ pub fn step(memory: &mut [u64], chain: Chain, pointer: u64) -> Meeting
     let Some(number) = family.follow(memory, pointer) else {
         return Meeting::End;
     };
-    if FROM.get(memory, number) < SLOTS {
+    if FROM.get(memory, number) < CARDS {
         let next = family.heads + number;
         return Meeting::Living {
             entry: number,

@@ -4,8 +4,8 @@ ghost use Rattle.row.specs.Columns.{cell};
 ghost use Rattle.links.specs.Layout.{froms, tos, live, end};
 ghost use Rattle.links.specs.Entries.{buried};
 
-use crate::layout::{END, FROM, LIVE, SLOTS, TO};
-use row::TALLY;
+use crate::layout::{DEAD, END, FROM, LIVE, TO};
+use row::{CARDS, TALLY};
 
 // How many links there are.
 pub fn len(memory: &[u64]) -> u64
@@ -40,10 +40,10 @@ pub fn to_of(memory: &[u64], entry: u64) -> u64
 pub(crate) fn bury(memory: &mut [u64], entry: u64)
     ensures { memory.new ≡ buried memory.old entry }
 {
-    if from_of(memory, entry) < SLOTS {
+    if from_of(memory, entry) < CARDS {
         let live = len(memory);
-        FROM.set(memory, entry, SLOTS);
-        TO.set(memory, entry, SLOTS);
+        FROM.set(memory, entry, DEAD);
+        TO.set(memory, entry, DEAD);
         TALLY.set(memory, LIVE, live.saturating_sub(1));
     }
 }

@@ -4,15 +4,15 @@ ghost use Rattle.links.specs.Chains.{Below};
 ghost use Rattle.links.specs.Entries.{pair_bucket, link_at, found};
 
 use crate::entries::{from_of, to_of};
-use crate::layout::{BUCKET, PAIR, SLOTS};
-use row::{Link, spread};
+use crate::layout::{BUCKET, PAIR};
+use row::{CARDS, Link, spread};
 
 // The bucket of a link.
 #[tactic(auto, unfolding(crate::specs::Entries::pair_bucket))]
 pub(crate) fn bucket_of(link: Link) -> u64
     ensures { result ≡ pair_bucket link }
 {
-    spread(link.from.wrapping_mul(SLOTS).wrapping_add(link.to)) / BUCKET
+    spread(link.from.wrapping_mul(CARDS).wrapping_add(link.to)) / BUCKET
 }
 
 // The link that an entry holds.

@@ -11,10 +11,10 @@ mod removing;
 mod theory;
 
 pub use building::{insert, rebuild};
-pub use chain::{Chain, Meeting, step};
+pub use chain::{Chain, Meeting, take_step};
 pub use entries::{from_of, len, to_of, used};
 pub use finding::find;
-pub use layout::ENTRIES;
+pub use layout::{END, ENTRIES, FROM, IN, LIVE, OUT, PAIR, TO};
 pub use removing::{remove, remove_all};
 pub use theory::{
     begins_stands, counts_stands, depends_stands, finds_stands, gives_stands, inserts_stands,

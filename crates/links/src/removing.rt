@@ -1,6 +1,6 @@
-// Links are taken out of the table. A check hands on its value or leaves with the refusal, by `let .. else`.
+// Links are taken out of the table.
 ghost use Rattle.std.specs.Prelude.{◌≡◌};
-ghost use Rattle.links.specs.Removing.{settled, removed, struck, cleared, removed_all};
+ghost use Rattle.links.specs.Removing.{compacted, removed, struck, cleared, removed_all};
 
 use crate::building::rebuild;
 use crate::chain::Chain;
@@ -10,9 +10,9 @@ use crate::layout::{ENTRIES, SLACK};
 use row::{Link, Refusal};
 
 // Builds the table again, if too many of it are dead.
-#[tactic(auto, unfolding(crate::specs::Removing::settled))]
-fn settle(memory: &mut [u64])
-    ensures { memory.new ≡ settled memory.old }
+#[tactic(auto, unfolding(crate::specs::Removing::compacted))]
+fn compact(memory: &mut [u64])
+    ensures { memory.new ≡ compacted memory.old }
 {
     let live = len(memory);
     let dead = used(memory).saturating_sub(live);
@@ -31,11 +31,11 @@ pub fn remove(memory: &mut [u64], link: Link) -> Result<u64, Refusal>
         return Err(Refusal::Missing);
     };
     bury(memory, entry);
-    settle(memory);
+    compact(memory);
     Ok(entry)
 }
 
-// Marks all of a chain dead, from a pointer on. Each turn writes to the memory, which a `Walk` would hold lent; a garbage memory may go round.
+// Marks all of a chain dead, from a pointer on. A garbage memory may go round.
 #[tactic(auto, using(crate::proofs::Turns::strikes), unfolding(crate::specs::Chains::followed))]
 fn strike(memory: &mut [u64], chain: Chain, first: u64)
     ensures { memory.new ≡ struck 67584 memory.old chain first }
@@ -67,5 +67,5 @@ pub fn remove_all(memory: &mut [u64], slot: u64)
 {
     clear(memory, Chain::Out, slot);
     clear(memory, Chain::In, slot);
-    settle(memory);
+    compact(memory);
 }

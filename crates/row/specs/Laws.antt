@@ -2,14 +2,18 @@
 --
 --   Begins         zeros stand, with no cards
 --   Apart          no card stands twice
+--   Came           a card came, into a slot: it is last, and the others stay
 --   ComesAppends   a card that comes is last; it's refused if it's there, or if there are 8,192
+--   Gone           a card went, out of a slot: the others stay in their order
 --   GoesFilters    a card that goes leaves the others in their order; it's refused if it isn't there
 --   Finds          a card is found if and only if it's there, and at its place
 --   Tells          what is told is the row's middle
 --   by_slot m ls   the board of the slots in the row, with these links between slots
 --   by_card m ls   the board of the cards in the row, with the same links between cards
 --   SlotsNamed     the board of cards is the board of slots with the cards' numbers for names, if its links are between cards
+--   OnlyRow        a memory is as another but for the columns of this crate
 --   ElseStays      nothing but the columns of this crate changes, and the memory keeps its length
+--   SameRow        two memories agree on the columns of this crate
 --   Depends        what the row means depends on the columns of this crate alone
 use Rattle.std.specs.Prelude.{◌≡◌, ℕ, ◌+◌, ◌<◌, ◌≤◌, true, false, cond, not, ◌&&◌, List, [], ◌∷◌, ◌++◌, map, length, take, drop, replicate, Some, None, Ok, ◌==◌}
 use Rattle.row.specs.declared.board.Refusal.TheVariants.{Missing, Exists, Full}

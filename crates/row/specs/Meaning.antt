@@ -2,6 +2,7 @@
 --
 --   row_of m           the slots in the row, from the left
 --   cards m            the cards in the row, from the left
+--   in_use n f place s   the slot s is a card's, of f slots ever in use and n cards
 --   used m s           the slot s is a card's
 --   Spells next p xs   the chain from the pointer p on holds the slots xs
 --   Chains             each chain holds the slots in use of its bucket, each once

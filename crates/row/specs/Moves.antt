@@ -6,6 +6,7 @@
 --   room m           the place behind the last card, if there's room
 --   slot_for m p     the slot of a card that comes to the place p
 --   taken m p        the memory after that slot was taken
+--   arrived m p k    the memory after the card k came to the place p
 --   came m k         a card came
 --   seated_in m p s  the place p given to the slot s, in both columns
 --   shifted f m p    f cards behind the place p moved one place to the left

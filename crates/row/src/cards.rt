@@ -2,8 +2,6 @@
 //
 // A card's number is looked up once; from then on the card is a slot. `SLOTS` and `PLACES` are inverse to each other: the cards stand in the first
 // places, and behind them wait the slots that are free again, so that a card that comes takes the slot at the row's end.
-//
-// Each check of a command hands on its value or leaves with the refusal, by `let .. else`, as in all crates here.
 ghost use Rattle.std.specs.Prelude.{◌≡◌, ◌-◌, ◌<◌};
 ghost use Rattle.row.specs.Columns.{cell};
 ghost use Rattle.row.specs.Layout.{count, places};

@@ -17,14 +17,14 @@ pub const FRESH: u64 = 1;
 // By slot: the number of its card.
 pub const IDS: Column = Column {
     base: 64,
-    size: 8192,
+    size: CARDS,
 };
 
 // The hash chains, whose entries are the slots, with as many heads as there are slots.
 pub const CHAINS: Family = Family {
     pointers: Column {
         base: 8328,
-        size: 16384,
+        size: 2 * CARDS,
     },
     heads: CARDS,
     entries: CARDS,
@@ -36,11 +36,11 @@ pub const BUCKET: u64 = 0x0008_0000_0000_0000;
 // By place: the slot of the card that stands there, and behind the cards the slots that are free again.
 pub const SLOTS: Column = Column {
     base: 24784,
-    size: 8192,
+    size: CARDS,
 };
 
 // By slot: its place.
 pub const PLACES: Column = Column {
     base: 33048,
-    size: 8192,
+    size: CARDS,
 };

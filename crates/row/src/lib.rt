@@ -22,7 +22,7 @@ pub use laws::{
     apart_stands, begins_stands, comes_appends_stands, depends_stands, else_stays_stands,
     finds_stands, goes_filters_stands, slots_named_stands, tells_stands,
 };
-pub use layout::{CARDS, IDS, PLACES, SLOTS, TALLY};
+pub use layout::{CARDS, CHAINS, COUNT, FRESH, IDS, PLACES, SLOTS, TALLY};
 pub use lookup::find;
 pub use telling::tell;
 pub use theory::{

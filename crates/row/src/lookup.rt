@@ -1,6 +1,4 @@
 // From a card's number to its slot, by hash chains.
-//
-// A slot that is found is told as a number with its bound, and has no type of its own: it goes on into columns, which take any number.
 ghost use Rattle.std.specs.Prelude.{◌≡◌, ◌<◌};
 ghost use Rattle.row.specs.Lookup.{bucket, sought, found, entered, withdrawn, Below, EntryBelow};
 

@@ -6,8 +6,7 @@ ghost use Rattle.row.specs.Telling.{told, told_count};
 
 use crate::layout::{CARDS, IDS, SLOTS};
 
-// Writes the cards that the slots are of to the front of `out`, by index: tried with `out.iter_mut()` zipped with the slots, no proof closed, since of what
-// is written through it nothing is known afterwards.
+// Writes the cards that the slots are of to the front of `out`.
 fn name_all(memory: &[u64], slots: &[u64], out: &mut [u64])
     requires { length slots.now ≤ length out.old }
     ensures { out.new ≡ map (cell memory.now ids) slots.now ++ drop (length slots.now) out.old }

@@ -6,7 +6,7 @@ ghost use Rattle.row.specs.Walks.{walked, walk_left};
 use crate::chains::{Entry, Family};
 
 // The entries of a chain, from a pointer on, each with the pointer that holds it. In a garbage memory a chain may go round: a walk has no more steps than
-// its family has entries.
+// its family has entries. A walk holds the memory lent, so a loop that writes to it in each turn goes by its own pointer instead, in counted turns.
 #[derive(Clone, Debug, Drop)]
 pub struct Walk<'m> {
     memory: &'m [u64],

@@ -18,7 +18,7 @@ use Rattle.search.specs.Sides.{chain_of, marks_of, other, ahead}
 use Rattle.search.specs.Hunt.{Spreading, spreading, Going, advanced, moved, gone_on, part_of}
 use Rattle.search.specs.Meaning.{Trailed}
 use Rattle.search.proofs.Potential.{entries, entries_more, weight, weight_passed, cost}
-use Rattle.search.proofs.Between.{Setting, used_below, count_below, seat_used, part_tells}
+use Rattle.search.proofs.Between.{Setting, used_below, count_below, slot_on_used, part_tells}
 use Rattle.search.proofs.Reaching.{arc_entry}
 use Rattle.search.proofs.Sounding.{Sound, same_table}
 use Rattle.search.proofs.Spreads.{Covered, Ends, Spreaded, spreads}
@@ -77,7 +77,7 @@ module _ (m : List ℕ) (a b : ℕ) (S : Setting m a b) (was : ℕ → Link) whe
     mp = h.there p refl
 
     seated : (used m x ≡ true) × (cell m places x ≡ p)
-    seated = seat_used m a b S p (part_tells m a b S p (s.within d p mp)).2
+    seated = slot_on_used m a b S p (part_tells m a b S p (s.within d p mp)).2
 
     x_below : x < 8192
     x_below = (used_below m a b S x seated.0).0

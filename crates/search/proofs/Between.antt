@@ -59,11 +59,11 @@ module _ (m : List ℕ) (a b : ℕ) (S : Setting m a b) where
   pub count_below : count m ≤ 8192
   count_below = omega (arith, S.ready.stands.stands.few, S.ready.stands.stands.room)
 
-  pub seat_used : (p : ℕ) → p < count m → (used m (cell m slots p) ≡ true) × (cell m places (cell m slots p) ≡ p)
-  seat_used p h = (slot_used m S.ready.stands p h, (S.ready.stands.stands.slot_at p (omega (arith, S.ready.stands.stands.few))).1)
+  pub slot_on_used : (p : ℕ) → p < count m → (used m (cell m slots p) ≡ true) × (cell m places (cell m slots p) ≡ p)
+  slot_on_used p h = (slot_used m S.ready.stands p h, (S.ready.stands.stands.slot_at p (omega (arith, S.ready.stands.stands.few))).1)
 
   pub row_used : (s : ℕ) → has (row_of m) s ≡ true → used m s ≡ true
-  row_used s h = let w = made_has (cell m slots) 0 (count m) s h in rw w.3 at (seat_used w.0 (omega (arith, w.2))).0
+  row_used s h = let w = made_has (cell m slots) 0 (count m) s h in rw w.3 at (slot_on_used w.0 (omega (arith, w.2))).0
 
   linked_tells : (x y : ℕ) → linked r x y ≡ true → (used m x ≡ true) × (used m y ≡ true) × (cell m places x < cell m places y)
   linked_tells x y h =

@@ -4,52 +4,52 @@ use Rattle.std.proofs.lemmas.Bool.{ltb-true, ltb-false, eqb-true, eqb-false, con
 use Rattle.row.specs.declared.column.Column.{Column}
 use Rattle.row.specs.Columns.{cell}
 use Rattle.row.specs.Lookup.{given}
-use Rattle.search.specs.Marks.{bit, marked, sink, word_down, down_from, next_down}
+use Rattle.search.specs.Marks.{bit, marked, last_bit, word_down, down_from, next_down}
 use Rattle.search.specs.MarkLaws.{Summed, JustBefore, GoingDown}
 use Rattle.search.proofs.Runs.{Last, last_or, last_wide, last_word}
-use Rattle.search.proofs.Near.{sink_last, sink_none}
+use Rattle.search.proofs.Near.{last_bit_last, last_bit_none}
 use Rattle.search.proofs.Naming.{none_named, some_named, marked_bit, unmarked}
 
 word_down_last : (m : List ℕ) (c : Column) → ((i : ℕ) → cell m c i < 2 ^ 64) → (w : ℕ) → w < 128 → Last (bit m c 128) 0 (w + 1) (word_down m c w)
 unfolding word_down
 word_down_last m c fits w h =
-    last_or (bit m c 128) 0 (w / 64 * 64) (w + 1) (sink m c 128 w) (cond (ltb w 64) None (sink m c 128 63)) (omega arith) (omega arith)
-    (sink_last m c 128 w (fits (128 + w / 64))) first
+    last_or (bit m c 128) 0 (w / 64 * 64) (w + 1) (last_bit m c 128 w) (cond (ltb w 64) None (last_bit m c 128 63)) (omega arith) (omega arith)
+    (last_bit_last m c 128 w (fits (128 + w / 64))) first
   where
-    first : Last (bit m c 128) 0 (w / 64 * 64) (cond (ltb w 64) None (sink m c 128 63))
+    first : Last (bit m c 128) 0 (w / 64 * 64) (cond (ltb w 64) None (last_bit m c 128 63))
     first =
-        cond_both (ltb w 64) None (sink m c 128 63) (Last (bit m c 128) 0 (w / 64 * 64)) (λ e r l x. absurd (omega (arith, ltb-true w 64 e)))
+        cond_both (ltb w 64) None (last_bit m c 128 63) (Last (bit m c 128) 0 (w / 64 * 64)) (λ e r l x. absurd (omega (arith, ltb-true w 64 e)))
         (λ e. let k : 64 ≡ w / 64 * 64 = omega (arith, ltb-false w 64 e) in
-        subst (λ (x : ℕ). Last (bit m c 128) 0 x (sink m c 128 63)) k (sink_last m c 128 63 (fits (128 + 63 / 64))))
+        subst (λ (x : ℕ). Last (bit m c 128) 0 x (last_bit m c 128 63)) k (last_bit_last m c 128 63 (fits (128 + 63 / 64))))
 
 module _ (m : List ℕ) (c : Column) (sm : Summed m c) where
-  named : (v : ℕ) → v < 128 → bit m c 128 v ≡ true → Last (bit m c 0) 0 (v * 64 + 64) (sink m c 0 (v * 64 + 63))
+  named : (v : ℕ) → v < 128 → bit m c 128 v ≡ true → Last (bit m c 0) 0 (v * 64 + 64) (last_bit m c 0 (v * 64 + 63))
   named v h e =
       let k : v * 64 + 63 + 1 ≡ v * 64 + 64 = omega arith in
-      subst (λ (x : ℕ). Last (bit m c 0) 0 x (sink m c 0 (v * 64 + 63))) k
-      (last_wide (bit m c 0) 0 ((v * 64 + 63) / 64 * 64) (v * 64 + 63 + 1) (sink m c 0 (v * 64 + 63)) (omega arith) some
-      (sink_last m c 0 (v * 64 + 63) (sm.fits (0 + (v * 64 + 63) / 64))))
+      subst (λ (x : ℕ). Last (bit m c 0) 0 x (last_bit m c 0 (v * 64 + 63))) k
+      (last_wide (bit m c 0) 0 ((v * 64 + 63) / 64 * 64) (v * 64 + 63 + 1) (last_bit m c 0 (v * 64 + 63)) (omega arith) some
+      (last_bit_last m c 0 (v * 64 + 63) (sm.fits (0 + (v * 64 + 63) / 64))))
     where
-      some : sink m c 0 (v * 64 + 63) ≡ None → ⊥
+      some : last_bit m c 0 (v * 64 + 63) ≡ None → ⊥
       some n =
           let a : 0 + (v * 64 + 63) / 64 ≡ v = omega arith in
           let b : (v * 64 + 63) % 64 + 1 ≡ 64 = omega arith in
-          let z = rw (a, b) at (sink_none m c 0 (v * 64 + 63) n) in
+          let z = rw (a, b) at (last_bit_none m c 0 (v * 64 + 63) n) in
           let f = sm.fits v in
           some_named m c sm v h e (omega arith)
 
   pub down_from_last : (p : ℕ) → p < 8192 → Last (bit m c 0) 0 (p + 1) (down_from m c p)
   unfolding down_from
   down_from_last p h =
-      last_or (bit m c 0) 0 (p / 64 * 64) (p + 1) (sink m c 0 p) (cond (ltb p 64) None rest) (omega arith) (omega arith)
-      (sink_last m c 0 p (sm.fits (0 + p / 64))) before
+      last_or (bit m c 0) 0 (p / 64 * 64) (p + 1) (last_bit m c 0 p) (cond (ltb p 64) None rest) (omega arith) (omega arith)
+      (last_bit_last m c 0 p (sm.fits (0 + p / 64))) before
     where
       rest : Option ℕ
-      rest = given (word_down m c (p / 64 - 1)) None (λ w. sink m c 0 (w * 64 + 63))
+      rest = given (word_down m c (p / 64 - 1)) None (λ w. last_bit m c 0 (w * 64 + 63))
 
       under : Last (bit m c 0) 0 ((p / 64 - 1 + 1) * 64) rest
       under =
-          last_word (bit m c 0) (bit m c 128) (λ w. sink m c 0 (w * 64 + 63)) (none_named m c sm) (p / 64 - 1 + 1) (word_down m c (p / 64 - 1)) (omega arith)
+          last_word (bit m c 0) (bit m c 128) (λ w. last_bit m c 0 (w * 64 + 63)) (none_named m c sm) (p / 64 - 1 + 1) (word_down m c (p / 64 - 1)) (omega arith)
           named (word_down_last m c sm.fits (p / 64 - 1) (omega arith))
 
       before : Last (bit m c 0) 0 (p / 64 * 64) (cond (ltb p 64) None rest)

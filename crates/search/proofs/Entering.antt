@@ -16,7 +16,7 @@ use Rattle.search.specs.Marks.{marked, fresh, added}
 use Rattle.search.specs.MarkLaws.{Summed}
 use Rattle.search.specs.Sides.{marks_of, other}
 use Rattle.search.specs.Hunt.{sees, entered, part_of}
-use Rattle.search.specs.Meaning.{slot_board, seat, part}
+use Rattle.search.specs.Meaning.{slot_board, slot_on, part}
 use Rattle.search.specs.HuntLaws.{Hunting}
 use Rattle.search.proofs.Adding.{adding}
 use Rattle.search.proofs.Frames.{only_added}
@@ -115,7 +115,7 @@ module _ (m : List ℕ) (a b : ℕ) (S : Setting m a b) (was : ℕ → Link) (n 
       | inr i ↦ rw i (summed_same n n' (marks_of (other d)) cells_other alike.same.as_long (s.summed (other d)))
     ]
 
-    led_new : (e : Side) (z : ℕ) → (e ≡ d) × (z ≡ q) → comes (slot_board m) e (origin a b e) (seat m z) ≡ true
+    led_new : (e : Side) (z : ℕ) → (e ≡ d) × (z ≡ q) → comes (slot_board m) e (origin a b e) (slot_on m z) ≡ true
     led_new e z i =
         let l = s.led d (cell m places x) mx in
         let y = rw (used_below m a b S x ux).2 at l in

@@ -7,7 +7,7 @@ use Rattle.std.proofs.lemmas.Bool.{cases_lt, eqb-true, eqb-false, cond_both, bot
 use Rattle.std.proofs.lemmas.Bool.Decides.{nat_tests}
 use Rattle.row.specs.declared.column.Column.{Column}
 use Rattle.row.specs.Columns.{cell}
-use Rattle.search.specs.Marks.{digit, bit, rise, sink}
+use Rattle.search.specs.Marks.{digit, bit, next_bit, last_bit}
 use Rattle.search.proofs.Words.{digit_shr, digit_mod, digit_zero, digit_above, trailing_first, leading_highest}
 use Rattle.search.proofs.Runs.{First, Last}
 
@@ -21,9 +21,9 @@ module _ (m : List ℕ) (c : Column) (s i : ℕ) where
       let k : r % 64 ≡ i % 64 + (r - i) = omega arith in
       bit_in r e ∙ ap (digit (cell m c (s + i / 64))) k ∙ sym (digit_shr (cell m c (s + i / 64)) (i % 64) (r - i))
 
-  pub rise_first : cell m c (s + i / 64) < 2 ^ 64 → First (bit m c s) i (i / 64 * 64 + 64) (rise m c s i)
-  unfolding rise
-  rise_first fits =
+  pub next_bit_first : cell m c (s + i / 64) < 2 ^ 64 → First (bit m c s) i (i / 64 * 64 + 64) (next_bit m c s i)
+  unfolding next_bit
+  next_bit_first fits =
       cond_both (eqb v 0) None (Some (i + count_trailing_zeros 64 v)) (First (bit m c s) i (i / 64 * 64 + 64)) (λ e. none (eqb-true v 0 e)) (λ e. some (eqb-false v 0 e))
     where
       v : ℕ
@@ -43,16 +43,16 @@ module _ (m : List ℕ) (c : Column) (s i : ℕ) where
             λ r l h. bit_up r l (omega arith) ∙ low.2 (r - i) (omega arith),
           )
 
-  pub rise_none : rise m c s i ≡ None → cell m c (s + i / 64) / 2 ^ (i % 64) ≡ 0
-  unfolding rise
-  rise_none e = grind (arith, nat_tests)
+  pub next_bit_none : next_bit m c s i ≡ None → cell m c (s + i / 64) / 2 ^ (i % 64) ≡ 0
+  unfolding next_bit
+  next_bit_none e = grind (arith, nat_tests)
 
   bit_down : (r : ℕ) → r ≤ i → r / 64 ≡ i / 64 → bit m c s r ≡ digit (cell m c (s + i / 64) % 2 ^ (i % 64 + 1)) (r % 64)
   bit_down r l e = bit_in r e ∙ sym (digit_mod (cell m c (s + i / 64)) (i % 64 + 1) (r % 64) (omega arith))
 
-  pub sink_last : cell m c (s + i / 64) < 2 ^ 64 → Last (bit m c s) (i / 64 * 64) (i + 1) (sink m c s i)
-  unfolding sink
-  sink_last fits =
+  pub last_bit_last : cell m c (s + i / 64) < 2 ^ 64 → Last (bit m c s) (i / 64 * 64) (i + 1) (last_bit m c s i)
+  unfolding last_bit
+  last_bit_last fits =
       cond_both (eqb v 0) None (Some (i / 64 * 64 + (63 - count_leading_zeros 64 v))) (Last (bit m c s) (i / 64 * 64) (i + 1)) (λ e. none (eqb-true v 0 e)) (λ e. some (eqb-false v 0 e))
     where
       v : ℕ
@@ -83,6 +83,6 @@ module _ (m : List ℕ) (c : Column) (s i : ℕ) where
             λ r k h. bit_down r (omega arith) (omega arith) ∙ high.1 (r % 64) (omega arith),
           )
 
-  pub sink_none : sink m c s i ≡ None → cell m c (s + i / 64) % 2 ^ (i % 64 + 1) ≡ 0
-  unfolding sink
-  sink_none e = grind (arith, nat_tests)
+  pub last_bit_none : last_bit m c s i ≡ None → cell m c (s + i / 64) % 2 ^ (i % 64 + 1) ≡ 0
+  unfolding last_bit
+  last_bit_none e = grind (arith, nat_tests)

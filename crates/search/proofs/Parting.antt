@@ -14,13 +14,13 @@ use Rattle.search.specs.declared.side.Side.TheVariants.{Fore, Hind}
 use Rattle.search.specs.Layout.{fore, hind}
 use Rattle.search.specs.Marks.{marked}
 use Rattle.search.specs.Sides.{marks_of, other, joined}
-use Rattle.search.specs.Meaning.{slot_board, seat, part, Parted, Trailed}
-use Rattle.search.proofs.Between.{arc, Setting, used_below, seat_used, arc_tells, comes_round, part_tells, part_from}
+use Rattle.search.specs.Meaning.{slot_board, slot_on, part, Parted, Trailed}
+use Rattle.search.proofs.Between.{arc, Setting, used_below, slot_on_used, arc_tells, comes_round, part_tells, part_from}
 use Rattle.search.proofs.Sounding.{Sound, sound_kept}
 
 -- what a link leads to from a place that the search has come to, it has come to
 abbrev pub Closed : List ℕ → ℕ → ℕ → Side → List ℕ → ℕ → Type 0
-Closed m a b d n q = (t : ℕ) → arc (slot_board m) d (seat m q) t ≡ true → part m a b (cell m places t) ≡ true → marked n (marks_of d) (cell m places t) ≡ true
+Closed m a b d n q = (t : ℕ) → arc (slot_board m) d (slot_on m q) t ≡ true → part m a b (cell m places t) ≡ true → marked n (marks_of d) (cell m places t) ≡ true
 
 module _ (m : List ℕ) (a b : ℕ) (S : Setting m a b) (was : ℕ → Link) (n : List ℕ) (s : Sound m a b was n) where
   -- ways go up
@@ -55,19 +55,19 @@ module _ (m : List ℕ) (a b : ℕ) (S : Setting m a b) (was : ℕ → Link) (n 
         let p = part_from m a b S (cell m places y) l (omega (arith, t.2, (here Hind w.0 t.1 ih).1)) in
         closed Hind (cell m places w.0) ih y (rw e w.1) p
 
-    fore_led : (p : ℕ) → part m a b p ≡ true → leads (slot_board m) b (seat m p) ≡ true → marked n fore p ≡ true
+    fore_led : (p : ℕ) → part m a b p ≡ true → leads (slot_board m) b (slot_on m p) ≡ true → marked n fore p ≡ true
     fore_led p i l =
-        let w = leads_way (slot_board m) (fine_parts (slot_board m) S.ready.fine_so) b (seat m p) l in
+        let w = leads_way (slot_board m) (fine_parts (slot_board m) S.ready.fine_so) b (slot_on m p) l in
         let t = part_tells m a b S p i in
-        let e = (seat_used m a b S p t.2).1 in
-        rw e at (fore_all w.0 b (seat m p) w.1 S.b_used (s.start Fore) (rw e t.1))
+        let e = (slot_on_used m a b S p t.2).1 in
+        rw e at (fore_all w.0 b (slot_on m p) w.1 S.b_used (s.start Fore) (rw e t.1))
 
-    hind_led : (p : ℕ) → part m a b p ≡ true → leads (slot_board m) (seat m p) a ≡ true → marked n hind p ≡ true
+    hind_led : (p : ℕ) → part m a b p ≡ true → leads (slot_board m) (slot_on m p) a ≡ true → marked n hind p ≡ true
     hind_led p i l =
-        let w = leads_way (slot_board m) (fine_parts (slot_board m) S.ready.fine_so) (seat m p) a l in
+        let w = leads_way (slot_board m) (fine_parts (slot_board m) S.ready.fine_so) (slot_on m p) a l in
         let t = part_tells m a b S p i in
-        let e = (seat_used m a b S p t.2).1 in
-        rw e at (hind_all w.0 (seat m p) a w.1 S.a_used (s.start Hind) (rw e t.0))
+        let e = (slot_on_used m a b S p t.2).1 in
+        rw e at (hind_all w.0 (slot_on m p) a w.1 S.a_used (s.start Hind) (rw e t.0))
 
     just : (p : ℕ) (d : Side) (l : Bool) → (part m a b p ≡ true → l ≡ true → marked n (marks_of d) p ≡ true) → (marked n (marks_of d) p ≡ true → l ≡ true)
         → marked n (marks_of d) p ≡ (part m a b p && l)
@@ -90,8 +90,8 @@ module _ (m : List ℕ) (a b : ℕ) (S : Setting m a b) (was : ℕ → Link) (n 
             let w = leads_way (slot_board m) (fine_parts (slot_board m) S.ready.fine_so) b a h in
             absurd (s.alone Fore (cell m places a) (fore_all w.0 b a w.1 S.b_used (s.start Fore) (omega arith)) (s.start Hind))
       ];
-      fore_is = λ p. just p Fore (leads (slot_board m) b (seat m p)) (fore_led p) (s.led Fore p);
-      hind_is = λ p. just p Hind (leads (slot_board m) (seat m p) a) (hind_led p) (s.led Hind p);
+      fore_is = λ p. just p Fore (leads (slot_board m) b (slot_on m p)) (fore_led p) (s.led Fore p);
+      hind_is = λ p. just p Hind (leads (slot_board m) (slot_on m p) a) (hind_led p) (s.led Hind p);
     }
 
   -- they have met

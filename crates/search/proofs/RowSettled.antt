@@ -20,7 +20,7 @@ use Rattle.row.proofs.Present.{used_place}
 use Rattle.links.proofs.Sameness.{edges_alike, tabled_alike}
 use Rattle.search.specs.Layout.{fore, hind, chosen}
 use Rattle.search.specs.MarkLaws.{Summed}
-use Rattle.search.specs.Meaning.{slot_board, seat, part, Ready, Parted}
+use Rattle.search.specs.Meaning.{slot_board, slot_on, part, Ready, Parted}
 use Rattle.search.specs.Settle.{Gathered, gathers, both_first, dealt, forgotten, chose, settled}
 use Rattle.search.specs.SettleLaws.{Unmarked, Settled, Settles}
 use Rattle.search.proofs.Frames.{cells_alone}
@@ -71,10 +71,10 @@ module _ (m m₁ : List ℕ) (a b : ℕ) (R : Ready m) (ua : used m a ≡ true) 
   B k = leads r b k
 
   abbrev MA : ℕ → Bool
-  MA p = part m a b p && A (seat m p)
+  MA p = part m a b p && A (slot_on m p)
 
   abbrev MB : ℕ → Bool
-  MB p = part m a b p && B (seat m p)
+  MB p = part m a b p && B (slot_on m p)
 
   abbrev M : ℕ → Bool
   M p = MA p || MB p

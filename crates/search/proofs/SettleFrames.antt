@@ -13,7 +13,7 @@ use Rattle.links.specs.declared.chain.Chain.TheVariants.{Out, In, Pair}
 use Rattle.links.specs.Layout.{pointers, froms, tos}
 use Rattle.links.specs.Frames.{Alike}
 use Rattle.search.specs.Layout.{fore, hind, chosen}
-use Rattle.search.specs.Marks.{Within, or_else, rise, word_up, up_from, next_up, first_mark, wiped}
+use Rattle.search.specs.Marks.{Within, or_else, next_bit, word_up, up_from, next_up, first_mark, wiped}
 use Rattle.search.specs.MarkLaws.{Summed}
 use Rattle.search.specs.Settle.{sooner, gathered, gathers, both_first, both_next, seated, dealt, forgotten, chose, settled}
 use Rattle.search.specs.SettleLaws.{Unmarked, OnlySets, OnlySettled, SettlesOnly, Forgets}
@@ -78,9 +78,9 @@ within_sooner n (Some p) None a b = a
 within_sooner n (Some p) (Some q) a b = omega arith
 
 module _ (m : List ℕ) (c : Column) where
-  rise_within : (s i n : ℕ) → i + 64 < n → Within n (rise m c s i)
-  unfolding rise
-  rise_within s i n h =
+  next_bit_within : (s i n : ℕ) → i + 64 < n → Within n (next_bit m c s i)
+  unfolding next_bit
+  next_bit_within s i n h =
       cond_both (eqb v 0) None (Some (i + count_trailing_zeros 64 v)) (Within n) (λ e. tt) (λ e. let t = trailing_le 64 v in omega arith)
     where
       v : ℕ
@@ -89,18 +89,18 @@ module _ (m : List ℕ) (c : Column) where
   word_within : (w : ℕ) → Within 192 (word_up m c w)
   unfolding word_up
   word_within w =
-      cond_both (ltb w 128) (or_else (rise m c 128 w) (cond (ltb w 64) (rise m c 128 64) None)) None (Within 192)
-      (λ e. within_or 192 (rise m c 128 w) (cond (ltb w 64) (rise m c 128 64) None) (rise_within 128 w 192 (let l = ltb-true w 128 e in omega arith))
-      (cond_both (ltb w 64) (rise m c 128 64) None (Within 192) (λ i. rise_within 128 64 192 (omega arith)) (λ i. tt))) (λ e. tt)
+      cond_both (ltb w 128) (or_else (next_bit m c 128 w) (cond (ltb w 64) (next_bit m c 128 64) None)) None (Within 192)
+      (λ e. within_or 192 (next_bit m c 128 w) (cond (ltb w 64) (next_bit m c 128 64) None) (next_bit_within 128 w 192 (let l = ltb-true w 128 e in omega arith))
+      (cond_both (ltb w 64) (next_bit m c 128 64) None (Within 192) (λ i. next_bit_within 128 64 192 (omega arith)) (λ i. tt))) (λ e. tt)
 
   up_within : (p : ℕ) → Within 16384 (up_from m c p)
   unfolding up_from
   up_within p =
-      cond_both (ltb p 8192) (or_else (rise m c 0 p) (given (word_up m c (p / 64 + 1)) None (λ w. rise m c 0 (w * 64)))) None (Within 16384)
-      (λ e. within_or 16384 (rise m c 0 p) (given (word_up m c (p / 64 + 1)) None (λ w. rise m c 0 (w * 64)))
-      (rise_within 0 p 16384 (let l = ltb-true p 8192 e in omega arith))
-      (within_given 16384 192 (word_up m c (p / 64 + 1)) (λ w. rise m c 0 (w * 64)) (word_within (p / 64 + 1))
-      (λ v h. rise_within 0 (v * 64) 16384 (omega arith)))) (λ e. tt)
+      cond_both (ltb p 8192) (or_else (next_bit m c 0 p) (given (word_up m c (p / 64 + 1)) None (λ w. next_bit m c 0 (w * 64)))) None (Within 16384)
+      (λ e. within_or 16384 (next_bit m c 0 p) (given (word_up m c (p / 64 + 1)) None (λ w. next_bit m c 0 (w * 64)))
+      (next_bit_within 0 p 16384 (let l = ltb-true p 8192 e in omega arith))
+      (within_given 16384 192 (word_up m c (p / 64 + 1)) (λ w. next_bit m c 0 (w * 64)) (word_within (p / 64 + 1))
+      (λ v h. next_bit_within 0 (v * 64) 16384 (omega arith)))) (λ e. tt)
 
   first_within : Within 16384 (first_mark m c)
   unfolding first_mark

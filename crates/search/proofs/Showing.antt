@@ -1,10 +1,7 @@
 -- What is shown after the two searches met is a way that goes round.
-use Rattle.std.proofs.Common.{◌≡◌, ℕ, ◌+◌, ◌-◌, ◌<◌, true, ltb, leb, List, [], ◌∷◌, map, length, get_or, refl, ◌∙◌, arith}
+use Rattle.std.proofs.Common.{◌≡◌, ℕ, ◌+◌, ◌-◌, ◌<◌, true, List, [], ◌∷◌, map, length, refl, ◌∙◌, arith}
 use mathlib.Core.List.{reverse_aux-eq}
-use Rattle.std.proofs.lemmas.Bool.{and_from, lt-ltb, cond_both}
-use Rattle.std.proofs.lemmas.Bool.Decides.{nat_tests}
 use Rattle.row.specs.declared.board.Link.{Link}
-use Rattle.row.specs.Lists.{every}
 use Rattle.row.specs.Board.{◌⟶◌, linked}
 use Rattle.row.specs.Columns.{cell}
 use Rattle.row.specs.Layout.{ids, places, count}
@@ -15,7 +12,7 @@ use Rattle.row.proofs.Named.{place_slot}
 use Rattle.search.specs.Layout.{fore, hind, via}
 use Rattle.search.specs.Marks.{marked}
 use Rattle.search.specs.Meaning.{slot_board, Ready, Trailed}
-use Rattle.search.specs.Way.{trail, way, shown}
+use Rattle.search.specs.Way.{trail, way}
 use Rattle.search.specs.WayLaws.{way_of, ShowsWay}
 use Rattle.search.proofs.Joining.{way_few, shown_is}
 use Rattle.search.proofs.Rounds.{Runs, runs_more, runs_round, onward, turned_round, short}
@@ -65,19 +62,3 @@ shows_way m m' a b x t out R T h =
       few = way_few (cell m' via) 8192 (a ⟶ b) (x ⟶ t);
       is = shown_is m' (a ⟶ b) (x ⟶ t) out h ∙ map_same (cell m' ids) (cell m ids) T.kept.same_ids (way_of m' a b x t);
     }
-
--- what is shown are numbers of the memory
-every_map : (n : ℕ) (f : ℕ → ℕ) → ((s : ℕ) → f s < n) → (xs : List ℕ) → every (λ v. ltb v n) (map f xs) ≡ true
-unfolding every
-every_map n f h [] = refl
-every_map n f h (x ∷ xs) = and_from _ _ (lt-ltb (f x) n (h x)) (every_map n f h xs)
-
-cell_below : (m : List ℕ) (n : ℕ) → ((i : ℕ) → get_or m i 0 < n) → (s : ℕ) → cell m ids s < n
-unfolding cell
-cell_below m n h s = let x = h (ids.base + s) in grind (arith, nat_tests)
-
-pub shown_below : (m : List ℕ) (n : ℕ) (l j : Link) (out : List ℕ) → ((i : ℕ) → get_or m i 0 < n) → every (λ v. ltb v n) (shown m l j out) ≡ true
-unfolding shown every
-shown_below m n l j out h =
-    cond_both (leb 8192 (length out)) (map (cell m ids) (way (cell m via) 8192 l j)) [] (λ (xs : List ℕ). every (λ v. ltb v n) xs ≡ true)
-    (λ _. every_map n (cell m ids) (cell_below m n h) (way (cell m via) 8192 l j)) (λ _. refl)

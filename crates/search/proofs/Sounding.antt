@@ -16,7 +16,7 @@ use Rattle.search.specs.Layout.{via}
 use Rattle.search.specs.Marks.{marked}
 use Rattle.search.specs.MarkLaws.{Summed, Only}
 use Rattle.search.specs.Sides.{marks_of, other}
-use Rattle.search.specs.Meaning.{slot_board, seat, part, Kept}
+use Rattle.search.specs.Meaning.{slot_board, slot_on, part, Kept}
 use Rattle.search.specs.HuntLaws.{Hunting}
 use Rattle.search.proofs.Frames.{cells_alone}
 use Rattle.search.proofs.Between.{origin, arc, comes, Beyond}
@@ -28,7 +28,7 @@ pub record Sound (m : List ℕ) (a b : ℕ) (was : ℕ → Link) (n : List ℕ) 
   pub summed : (d : Side) → Summed n (marks_of d)
   pub within : (d : Side) (q : ℕ) → marked n (marks_of d) q ≡ true → part m a b q ≡ true
   pub start : (d : Side) → marked n (marks_of d) (cell m places (origin a b d)) ≡ true
-  pub led : (d : Side) (q : ℕ) → marked n (marks_of d) q ≡ true → comes (slot_board m) d (origin a b d) (seat m q) ≡ true
+  pub led : (d : Side) (q : ℕ) → marked n (marks_of d) q ≡ true → comes (slot_board m) d (origin a b d) (slot_on m q) ≡ true
   pub trail : (d : Side) (s : ℕ) → used m s ≡ true → marked n (marks_of d) (cell m places s) ≡ true → (s ≡ origin a b d) ⊎
       ((used m (cell n via s) ≡ true) × (marked n (marks_of d) (cell m places (cell n via s)) ≡ true) × (arc (slot_board m) d (cell n via s) s ≡ true))
   pub alone : (d : Side) (q : ℕ) → marked n (marks_of d) q ≡ true → marked n (marks_of (other d)) q ≡ true → ⊥

@@ -12,12 +12,12 @@
 --   removed m c p      the memory after its mark was taken away
 --   Within n o         what is in an Option, if anything is, is below n
 --   or_else o z        what is in an Option, z where there is nothing
---   rise m c s i       the first set bit of a level from i on, in the word of i
+--   next_bit m c s i   the first set bit of a level from i on, in the word of i
 --   word_up m c w      the first word from w on that the summary names
 --   up_from m c p      the first marked place from p on
 --   next_up m c p      the first marked place after p
 --   first_mark m c     the first marked place
---   sink m c s i       the last set bit of a level up to i, in the word of i
+--   last_bit m c s i   the last set bit of a level up to i, in the word of i
 --   word_down m c w    the last word up to w that the summary names
 --   down_from m c p    the last marked place up to p
 --   next_down m c p    the last marked place before p
@@ -68,16 +68,16 @@ abbrev pub or_else : Option ℕ → Option ℕ → Option ℕ
 or_else None z = z
 or_else (Some q) z = Some q
 
-unfoldable pub rise : List ℕ → Column → ℕ → ℕ → Option ℕ
-rise m c s i =
+unfoldable pub next_bit : List ℕ → Column → ℕ → ℕ → Option ℕ
+next_bit m c s i =
     cond (cell m c (s + i / 64) / 2 ^ (i % 64) == 0) None (Some (i + count_trailing_zeros 64 (cell m c (s + i / 64) / 2 ^ (i % 64))))
 
 unfoldable pub word_up : List ℕ → Column → ℕ → Option ℕ
-word_up m c w = cond (nat_lt w 128) (or_else (rise m c 128 w) (cond (nat_lt w 64) (rise m c 128 64) None)) None
+word_up m c w = cond (nat_lt w 128) (or_else (next_bit m c 128 w) (cond (nat_lt w 64) (next_bit m c 128 64) None)) None
 
 unfoldable pub up_from : List ℕ → Column → ℕ → Option ℕ
 up_from m c p =
-    cond (nat_lt p 8192) (or_else (rise m c 0 p) (given (word_up m c (p / 64 + 1)) None (λ w. rise m c 0 (w * 64)))) None
+    cond (nat_lt p 8192) (or_else (next_bit m c 0 p) (given (word_up m c (p / 64 + 1)) None (λ w. next_bit m c 0 (w * 64)))) None
 
 unfoldable pub next_up : List ℕ → Column → ℕ → Option ℕ
 next_up m c p = cond (nat_lt p 8192) (up_from m c (p + 1)) None
@@ -85,17 +85,17 @@ next_up m c p = cond (nat_lt p 8192) (up_from m c (p + 1)) None
 unfoldable pub first_mark : List ℕ → Column → Option ℕ
 first_mark m c = up_from m c 0
 
-unfoldable pub sink : List ℕ → Column → ℕ → ℕ → Option ℕ
-sink m c s i =
+unfoldable pub last_bit : List ℕ → Column → ℕ → ℕ → Option ℕ
+last_bit m c s i =
     cond (cell m c (s + i / 64) % 2 ^ (i % 64 + 1) == 0) None
     (Some (i / 64 * 64 + (63 - count_leading_zeros 64 (cell m c (s + i / 64) % 2 ^ (i % 64 + 1)))))
 
 unfoldable pub word_down : List ℕ → Column → ℕ → Option ℕ
-word_down m c w = or_else (sink m c 128 w) (cond (nat_lt w 64) None (sink m c 128 63))
+word_down m c w = or_else (last_bit m c 128 w) (cond (nat_lt w 64) None (last_bit m c 128 63))
 
 unfoldable pub down_from : List ℕ → Column → ℕ → Option ℕ
 down_from m c p =
-    or_else (sink m c 0 p) (cond (nat_lt p 64) None (given (word_down m c (p / 64 - 1)) None (λ w. sink m c 0 (w * 64 + 63))))
+    or_else (last_bit m c 0 p) (cond (nat_lt p 64) None (given (word_down m c (p / 64 - 1)) None (λ w. last_bit m c 0 (w * 64 + 63))))
 
 unfoldable pub next_down : List ℕ → Column → ℕ → Option ℕ
 next_down m c p = cond (p == 0) None (down_from m c (min p 8192 - 1))

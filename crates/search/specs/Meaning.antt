@@ -1,7 +1,7 @@
 -- What the memory stands for when a search begins, and what a search finds. Cards are their slots here.
 --
 --   slot_board m        the board of slots: the row and the links
---   seat m p            the slot at the place p
+--   slot_on m p         the slot at the place p
 --   part m a b p        the place p lies from b's place to a's, both in it
 --   Ready m             row and table stand, no place is marked, and the board of slots is fine
 --   Kept m m'           m' has the row, the table and the board that m has
@@ -22,8 +22,8 @@ use Rattle.search.specs.MarkLaws.{Summed}
 abbrev pub slot_board : List ℕ → Board
 slot_board m = record { row = row_of m; links = edges m }
 
-abbrev pub seat : List ℕ → ℕ → ℕ
-seat m p = cell m slots p
+abbrev pub slot_on : List ℕ → ℕ → ℕ
+slot_on m p = cell m slots p
 
 abbrev pub part : List ℕ → ℕ → ℕ → ℕ → Bool
 part m a b p = nat_le (cell m places b) p && nat_le p (cell m places a)
@@ -53,8 +53,8 @@ pub record Parted (m m' : List ℕ) (a b : ℕ) : Type 0 where
   pub fore_summed : Summed m' fore
   pub hind_summed : Summed m' hind
   pub no_round : leads (slot_board m) b a ≡ false
-  pub fore_is : (p : ℕ) → marked m' fore p ≡ (part m a b p && leads (slot_board m) b (seat m p))
-  pub hind_is : (p : ℕ) → marked m' hind p ≡ (part m a b p && leads (slot_board m) (seat m p) a)
+  pub fore_is : (p : ℕ) → marked m' fore p ≡ (part m a b p && leads (slot_board m) b (slot_on m p))
+  pub hind_is : (p : ℕ) → marked m' hind p ≡ (part m a b p && leads (slot_board m) (slot_on m p) a)
 
 pub record Trailed (m m' : List ℕ) (a b x t : ℕ) : Type 0 where
   pub kept : Kept m m'

@@ -7,17 +7,17 @@ ghost use Rattle.search.specs.Hunt.{inside, sees, entered, taken, spreading, gon
 
 use crate::layout::VIA;
 use crate::side::Side;
-use links::{Meeting, step};
-use row::{Link, PLACES, SLOTS};
+use links::{ENTRIES, Meeting, take_step};
+use row::{CARDS, Link, PLACES, SLOTS};
 use std::mem::replace;
 use std::ops::ControlFlow;
 
-// The turns of a walk that one search may make in all: more than there are entries and ends of chains.
-const FUEL: u64 = 75776;
+// The turns of a walk that one search may make in all: as many as there are entries and ends of chains.
+const FUEL: u64 = ENTRIES + CARDS;
 
 // How often both searches together may go on from a card: each goes on from a place at most once, and this is as many places as there are for both. A
 // garbage memory may go round.
-const TURNS: u64 = 16384;
+const TURNS: u64 = 2 * CARDS;
 
 // The places from `low` to `high`, both in it.
 #[derive(Clone, Copy)]
@@ -74,7 +74,7 @@ impl Search {
         ensures is { result ≡ (taken memory.old self.side self.part slot pointer).turn }
         ensures after { memory.new ≡ (taken memory.old self.side self.part slot pointer).memory }
     {
-        match step(memory, self.side.chain(), pointer) {
+        match take_step(memory, self.side.chain(), pointer) {
             Meeting::End => ControlFlow::Break(None),
             Meeting::Dead => ControlFlow::Continue(pointer),
             Meeting::Living { entry, next } => {
@@ -88,8 +88,8 @@ impl Search {
         }
     }
 
-    // Comes to all that a slot is linked to, and tells what is left of the fuel; it ends with the slot at which the other search is met, if it is. Each turn
-    // writes to the memory, which an iterator over the chain would hold lent; a garbage memory may go round, so the fuel counts the turns.
+    // Comes to all that a slot is linked to, and tells what is left of the fuel; it ends with the slot at which the other search is met, if it is. A garbage
+    // memory may go round, so the fuel counts the turns.
     #[tactic(auto, using(crate::proofs::Hunting::spreads))]
     fn spread_from(self, memory: &mut [u64], slot: u64, fuel: u64) -> ControlFlow<u64, u64>
         ensures is { result ≡ (spreading fuel memory.old self.side self.part slot slot).spread }
@@ -160,8 +160,7 @@ impl Front {
     }
 }
 
-// Two searches in turn, until they meet or neither has anything to go on from. The part stands beside them, since it's one for both. Each turn writes to the
-// memory, so no iterator over the places can hold it.
+// Two searches in turn, until they meet or neither has anything to go on from. The part stands beside them, since it's one for both.
 #[tactic(auto, using(crate::proofs::Hunting::hunts))]
 fn hunt(memory: &mut [u64], part: Part, mut near: Front, mut far: Front) -> Option<Link>
     ensures is { result ≡ (hunted 16384 memory.old part near far).answer }

@@ -1,7 +1,6 @@
-// Where the columns of this crate lie in the lent memory. There is no heap, and what is lent may hold anything: so columns of numbers stand here, by place or
-// by slot, and no lists or maps.
+// Where the columns of this crate lie in the lent memory, behind those of `links`.
 use crate::marks::Marks;
-use row::Column;
+use row::{CARDS, Column};
 
 // The places that a search forward has come to.
 pub const FORE: Marks = Marks {
@@ -22,11 +21,11 @@ pub const HIND: Marks = Marks {
 // By slot: the slot that a search came from.
 pub const VIA: Column = Column {
     base: 461512,
-    size: 8192,
+    size: CARDS,
 };
 
 // The slots that get new places, in their new order.
 pub const CHOSEN: Column = Column {
     base: 469776,
-    size: 8192,
+    size: CARDS,
 };

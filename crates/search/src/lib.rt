@@ -20,4 +20,4 @@ pub use theory::{
     settles_stands, shows_way_stands, skipping_down_stands, skipping_up_stands, wiping_stands,
     zeros_stands,
 };
-pub use way::{show, show_and_forget, show_trail};
+pub use way::{show_and_forget, show_trail};

@@ -1,12 +1,9 @@
 // Sets of places as bits. Two levels of bits stand in a column of 192 numbers: one bit per place, and behind these, in the summary, one bit per word of
 // the first level, which is set while that word isn't 0. Places that aren't marked cost next to nothing, since a word that holds none is passed over by
 // its bit in the summary.
-//
-// A place that is found is told as a number with its bound, and has no type of its own: it goes on into columns, which take any number, and each use would
-// have to unwrap it.
 ghost use Rattle.std.specs.Prelude.{◌≡◌, ℕ, ◌+◌, ◌*◌, ◌/◌, ◌<◌, ◌≤◌};
 ghost use Rattle.search.specs.Marks.{first_word, bit, flipped, toggled, marked, fresh, added, removed};
-ghost use Rattle.search.specs.Marks.{Within, rise, word_up, up_from, next_up, first_mark, sink, word_down, down_from, next_down, cleared, wiped};
+ghost use Rattle.search.specs.Marks.{Within, next_bit, word_up, up_from, next_up, first_mark, last_bit, word_down, down_from, next_down, cleared, wiped};
 
 use row::{CARDS, Column};
 
@@ -104,9 +101,9 @@ impl Marks {
     }
 
     // The first set bit of a level from `i` on, in the word of `i`.
-    #[tactic(auto, using(crate::proofs::Words::trailing_first), unfolding(crate::specs::Marks::rise))]
-    fn rise(self, memory: &[u64], level: Level, i: u64) -> Option<u64>
-        ensures is { result ≡ rise memory.now self.column (first_word level) i }
+    #[tactic(auto, using(crate::proofs::Words::trailing_first), unfolding(crate::specs::Marks::next_bit))]
+    fn next_bit(self, memory: &[u64], level: Level, i: u64) -> Option<u64>
+        ensures is { result ≡ next_bit memory.now self.column (first_word level) i }
         ensures below { Within (i / 64 * 64 + 64) result }
     {
         let rest = self.column.get(memory, level.first_word() + i / 64) >> (i % 64);
@@ -125,9 +122,9 @@ impl Marks {
         if word >= WORDS {
             return None;
         }
-        self.rise(memory, Level::Summary, word).or_else(|| {
+        self.next_bit(memory, Level::Summary, word).or_else(|| {
             if word < 64 {
-                self.rise(memory, Level::Summary, 64)
+                self.next_bit(memory, Level::Summary, 64)
             } else {
                 None
             }
@@ -143,9 +140,9 @@ impl Marks {
         if place >= CARDS {
             return None;
         }
-        self.rise(memory, Level::Places, place).or_else(|| {
+        self.next_bit(memory, Level::Places, place).or_else(|| {
             let word = self.word_up(memory, place / 64 + 1)?;
-            self.rise(memory, Level::Places, word * 64)
+            self.next_bit(memory, Level::Places, word * 64)
         })
     }
 
@@ -174,9 +171,9 @@ impl Marks {
     // word beside and the bit at which a word is entered all differ, and the type would have to name each of these.
 
     // The last set bit of a level up to `i`, in the word of `i`.
-    #[tactic(auto, using(crate::proofs::Words::masked), unfolding(crate::specs::Marks::sink))]
-    fn sink(self, memory: &[u64], level: Level, i: u64) -> Option<u64>
-        ensures is { result ≡ sink memory.now self.column (first_word level) i }
+    #[tactic(auto, using(crate::proofs::Words::masked), unfolding(crate::specs::Marks::last_bit))]
+    fn last_bit(self, memory: &[u64], level: Level, i: u64) -> Option<u64>
+        ensures is { result ≡ last_bit memory.now self.column (first_word level) i }
         ensures below { Within (i / 64 * 64 + 64) result }
     {
         let rest = self.column.get(memory, level.first_word() + i / 64)
@@ -194,11 +191,11 @@ impl Marks {
         ensures is { result ≡ word_down memory.now self.column word }
         ensures below { Within 128 result }
     {
-        self.sink(memory, Level::Summary, word).or_else(|| {
+        self.last_bit(memory, Level::Summary, word).or_else(|| {
             if word < 64 {
                 None
             } else {
-                self.sink(memory, Level::Summary, 63)
+                self.last_bit(memory, Level::Summary, 63)
             }
         })
     }
@@ -210,12 +207,12 @@ impl Marks {
         ensures is { result ≡ down_from memory.now self.column place }
         ensures below { Within 8192 result }
     {
-        self.sink(memory, Level::Places, place).or_else(|| {
+        self.last_bit(memory, Level::Places, place).or_else(|| {
             if place < 64 {
                 return None;
             }
             let word = self.word_down(memory, place / 64 - 1)?;
-            self.sink(memory, Level::Places, word * 64 + 63)
+            self.last_bit(memory, Level::Places, word * 64 + 63)
         })
     }
 
@@ -231,8 +228,7 @@ impl Marks {
         self.down_from(memory, place.min(CARDS) - 1)
     }
 
-    // Empties the words of places that the summary names, in as many turns as there are words, whatever the memory holds. Each turn writes to the memory, which
-    // an iterator over the words would hold lent.
+    // Empties the words of places that the summary names, in as many turns as there are words, whatever the memory holds.
     #[tactic(auto, using(crate::proofs::Clearing::steps))]
     fn clear(self, memory: &mut [u64])
         ensures { memory.new ≡ cleared 128 memory.old self.column 0 }

@@ -18,8 +18,8 @@ fn sooner(one: Option<u64>, other: Option<u64>) -> Option<u64>
     }
 }
 
-// Writes the slots at the marked places, upward, to CHOSEN from the index `from` on; says the next free index. Each turn writes to the memory, which an
-// iterator over the marks would hold lent; there are no more turns than places, whatever stands there.
+// Writes the slots at the marked places, upward, to CHOSEN from the index `from` on; says the next free index. There are no more turns than places,
+// whatever stands there.
 #[tactic(auto, using(crate::proofs::SettleSteps::steps), unfolding(crate::specs::Settle::gathers))]
 fn gather(memory: &mut [u64], marks: Marks, from: u64) -> u64
     requires { from ≤ 8192 }
@@ -66,14 +66,14 @@ fn next_of_both(memory: &[u64], place: u64) -> Option<u64>
 
 // Gives the place to the `i`-th slot of CHOSEN.
 #[tactic(auto, unfolding(crate::specs::Settle::seated))]
-fn seat(memory: &mut [u64], place: u64, i: u64)
+fn seat_chosen(memory: &mut [u64], place: u64, i: u64)
     ensures { memory.new ≡ seated memory.old place i }
 {
     let slot = CHOSEN.get(memory, i);
     row::seat(memory, place, slot);
 }
 
-// Gives the places of both sets, upward, to the slots of CHOSEN; in turns as those of `gather`, since each of these writes to the memory too.
+// Gives the places of both sets, upward, to the slots of CHOSEN, in no more turns than there are places.
 #[tactic(auto, using(crate::proofs::SettleSteps::steps))]
 fn deal(memory: &mut [u64])
     ensures { memory.new ≡ dealt 8192 memory.old (both_first memory.old) 0 }
@@ -83,7 +83,7 @@ fn deal(memory: &mut [u64])
         let Some(place) = next else {
             return;
         };
-        seat(memory, place, i);
+        seat_chosen(memory, place, i);
         next = next_of_both(memory, place);
     }
 }

@@ -2,9 +2,6 @@
 //
 // `VIA` leads from a slot of the one side back to where that search began, and from one of the other side on to where that began. So the first half
 // of the way is found from its end, and turned round in place.
-//
-// The link that was asked for and the one at which the searches met go side by side: the caller has the first, `meet` told the second, and a struct would be
-// made only to be taken apart here.
 ghost use Rattle.std.specs.Prelude.{◌≡◌, ◌≤◌, length};
 ghost use Rattle.row.specs.Columns.{cell};
 ghost use Rattle.search.specs.Layout.{via};
@@ -16,8 +13,7 @@ use crate::settling::forget;
 use row::{CARDS, Column, IDS, Link};
 
 // Writes the cards from that of the slot `first` on, each slot followed by the one that the column `by` has for it, up to that of `last`, to the front of
-// `out`, no more than it has room for; says how many. Tried elsewhere with `out.iter_mut()`: a proof knows nothing of what is written through it (so does
-// `name_all` of `row`).
+// `out`, no more than it has room for; says how many.
 pub fn show_trail(memory: &[u64], by: Column, first: u64, last: u64, out: &mut [u64]) -> usize
     ensures is { result ≡ length (trail (cell memory.now by) (length out.old) last first) }
     ensures out { out.new ≡ over memory.now (trail (cell memory.now by) (length out.old) last first) result out.old }
@@ -46,7 +42,7 @@ fn trace(memory: &[u64], link: Link, joint: Link, out: &mut [u64]) -> usize
 
 // Shows the way from `link.to` on to `link.from` that goes by the link `joint`, where the searches met: the numbers of its cards are written to the
 // front of `out`. Says how many, at most CARDS; none, if `out` hasn't room for so many.
-pub fn show(memory: &[u64], link: Link, joint: Link, out: &mut [u64]) -> u64
+fn show(memory: &[u64], link: Link, joint: Link, out: &mut [u64]) -> u64
     ensures { ShownSo (shown memory.now link joint out.old) out.old result out.new }
 {
     let room = CARDS as usize;
