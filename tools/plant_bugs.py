@@ -80,7 +80,9 @@ def planned(options):
         else:
             bare.append(name)
     wanted = shares(lists, options.max, options.seed)
-    return [(f, lists[f], wanted[f]) for f in lists if wanted[f]], bare
+    # a bug in a constant takes long: all that uses it is proved anew
+    order = sorted(lists, key=lambda f: f.rsplit("/")[-1].rsplit("::")[-1].isupper())
+    return [(f, lists[f], wanted[f]) for f in order if wanted[f]], bare
 
 
 def linked(folder, to):
@@ -188,7 +190,7 @@ class Log:
         self.path, self.done, self.lock = path, {}, threading.Lock()
         if resumes and os.path.isfile(path):
             with open(path, encoding="utf-8") as it:
-                self.done = {note["key"]: note for note in map(json.loads, it)}
+                self.done = {note["key"]: note for note in map(json.loads, it) if note["became"] != "untried"}
         elif path and os.path.isfile(path):
             sys.exit(f"plant_bugs: {path} is there already: go on with it by --resume, or name another")
 
