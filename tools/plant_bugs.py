@@ -22,6 +22,8 @@ import threading
 import time
 from concurrent.futures import ThreadPoolExecutor
 
+sys.dont_write_bytecode = True
+
 import bug_table
 from bug_kinds import NAMES, applied, bugs_of
 from rt_source import read_all
@@ -80,9 +82,14 @@ def planned(options):
         else:
             bare.append(name)
     wanted = shares(lists, options.max, options.seed)
-    # a bug in a constant takes long: all that uses it is proved anew
-    order = sorted(lists, key=lambda f: f.rsplit("/")[-1].rsplit("::")[-1].isupper())
-    return [(f, lists[f], wanted[f]) for f in order if wanted[f]], bare
+    return [(f, lists[f], wanted[f]) for f in lists if wanted[f]], bare
+
+
+def in_rounds(plan):
+    """First one bug of each function, then of each constant, which takes long, since all that uses it is proved anew; then the others."""
+    constants = [it for it in plan if it[0].split("/")[-1].split("::")[-1].isupper()]
+    functions = [it for it in plan if it not in constants]
+    return [(f, bugs, 1) for f, bugs, _ in functions + constants] + [it for it in plan if it[2] > 1]
 
 
 def linked(folder, to):
@@ -188,10 +195,11 @@ class Log:
 
     def __init__(self, path, resumes):
         self.path, self.done, self.lock = path, {}, threading.Lock()
+        os.makedirs(os.path.dirname(os.path.abspath(path)), exist_ok=True)
         if resumes and os.path.isfile(path):
             with open(path, encoding="utf-8") as it:
                 self.done = {note["key"]: note for note in map(json.loads, it) if note["became"] != "untried"}
-        elif path and os.path.isfile(path):
+        elif os.path.isfile(path):
             sys.exit(f"plant_bugs: {path} is there already: go on with it by --resume, or name another")
 
     def note(self, bug, became, said, shown, seconds):
@@ -233,11 +241,11 @@ def plant(options):
 
     lock = threading.Lock()
     with ThreadPoolExecutor(options.jobs) as pool:
-        for _ in pool.map(work_on, plan):
+        for _ in pool.map(work_on, in_rounds(plan)):
             pass
     if not options.work:
         shutil.rmtree(work, ignore_errors=True)
-    print("\n".join(bug_table.summary(log.done.values())))
+    print(bug_table.summary(list(log.done.values())))
 
 
 def show_list(options):
