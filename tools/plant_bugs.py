@@ -6,16 +6,16 @@
     tools/plant_bugs.py --table --log FILE         writes what FILE says into docs/BUGS.md
 
 A bug is a small change of the code of one function: another comparison, an operand exchanged, a constant off by one, a call dropped, and so on
-(tools/bug_kinds.py). The crates' clauses, definitions and proofs stay as they are, and each bug is checked in a copy of the repository, by `rt check` of its
-crate. One that the checker lets through is shown to the programs and their tests, if it is in a program. Not part of the gate.
+(tools/bug_kinds.py). The crates' clauses, definitions and proofs stay as they are, and bugs are checked in a copy of the repository, by `rt check` of their
+crate. Bugs in different functions are checked in one go, since a proof leans on the clauses of what is called and not on its code; where what is said doesn't
+name the bug's own function, it is tried alone. One that the checker lets through, if it is in a program, is shown to the programs and their tests. Not part
+of the gate.
 """
 import argparse
 import json
 import os
 import random
-import re
 import shutil
-import subprocess
 import sys
 import tempfile
 import threading
@@ -25,14 +25,13 @@ from concurrent.futures import ThreadPoolExecutor
 sys.dont_write_bytecode = True
 
 import bug_table
-from bug_kinds import NAMES, applied, bugs_of
+from bug_kinds import NAMES, bugs_of
+from bug_room import Room, base_of
 from rt_source import read_all
 
 ROOT = os.path.dirname(os.path.dirname(os.path.abspath(__file__)))
-PROGRAMS = ("board", "verify")
 # How many bugs that don't compile are passed over for each that is wanted in a function.
 PASSED_OVER = 4
-SECONDS = 900
 
 
 def name_of(bug):
@@ -85,111 +84,6 @@ def planned(options):
     return [(f, lists[f], wanted[f]) for f in lists if wanted[f]], bare
 
 
-def in_rounds(plan):
-    """First one bug of each function, then of each constant, which takes long, since all that uses it is proved anew; then the others."""
-    constants = [it for it in plan if it[0].split("/")[-1].split("::")[-1].isupper()]
-    functions = [it for it in plan if it not in constants]
-    return [(f, bugs, 1) for f, bugs, _ in functions + constants] + [it for it in plan if it[2] > 1]
-
-
-def linked(folder, to):
-    """Copies a folder; what a check kept of each module is linked, since a check replaces such a file and changes none."""
-
-    def copy(one, other):
-        if one.endswith(".oantt"):
-            os.link(one, other)
-        else:
-            shutil.copy2(one, other)
-
-    shutil.copytree(folder, to, symlinks=True, copy_function=copy)
-
-
-def base_of(work, jobs):
-    """A copy of the repository in which each crate is proved."""
-    base = f"{work}/base"
-    for part in ("crates.txt", "HANDLES", "tests", "crates"):
-        if os.path.isdir(f"{ROOT}/{part}"):
-            for at, folders, files in os.walk(f"{base}/{part}"):
-                folders[:] = [f for f in folders if f != "out"]
-                for file in files:
-                    os.remove(f"{at}/{file}")
-            shutil.copytree(f"{ROOT}/{part}", f"{base}/{part}", ignore=shutil.ignore_patterns("out", "must-fail"), dirs_exist_ok=True)
-        elif os.path.isfile(f"{ROOT}/{part}"):
-            os.makedirs(base, exist_ok=True)
-            shutil.copy2(f"{ROOT}/{part}", f"{base}/{part}")
-    ran = subprocess.run(["rt", "all", "check", "--jobs", str(jobs)], cwd=base, stdout=subprocess.PIPE, stderr=subprocess.STDOUT, text=True)
-    if ran.returncode:
-        sys.exit(f"plant_bugs: the repository as it stands isn't proved:\n{ran.stdout[-2000:]}")
-    return base
-
-
-class Room:
-    """A copy of the proved repository, for one bug after the other."""
-
-    def __init__(self, base, folder):
-        self.base, self.folder = base, folder
-        shutil.rmtree(folder, ignore_errors=True)
-        linked(base, folder)
-
-    def rt(self, crate, *words, given=None):
-        """The status of a command in a crate, and what it said."""
-        with open(given or os.devnull, "rb") as it:
-            how = {"cwd": f"{self.folder}/crates/{crate}", "stdin": it, "stdout": subprocess.PIPE, "stderr": subprocess.STDOUT}
-            try:
-                ran = subprocess.run(["rt", *words], **how, timeout=SECONDS)
-            except subprocess.TimeoutExpired:
-                return -1, ""
-        return ran.returncode, ran.stdout.decode(errors="replace")
-
-    def try_bug(self, bug):
-        """What becomes of a bug, with what was said first; the room is then as before."""
-        path = f"{self.folder}/crates/{bug.item.crate}/src/{bug.item.file}"
-        kept = f"crates/{bug.item.crate}/out/incremental"
-        with open(path, "w", encoding="utf-8") as it:
-            it.write(applied(bug.item.text, bug.changes))
-        try:
-            status, said = self.rt(bug.item.crate, "check", "--jobs", "1")
-            became, lines = verdict(status, said)
-            return became, lines, self.shown(bug.item.crate) if became == "through" else ""
-        finally:
-            with open(path, "w", encoding="utf-8") as it:
-                it.write(bug.item.text)
-            shutil.rmtree(f"{self.folder}/{kept}", ignore_errors=True)
-            linked(f"{self.base}/{kept}", f"{self.folder}/{kept}")
-
-    def shown(self, crate):
-        """The first test of a program that shows a bug which the checker lets through."""
-        if crate not in (*PROGRAMS, "program"):
-            return ""
-        for program in PROGRAMS:
-            at = f"{self.folder}/crates/{program}"
-            status, said = self.rt(program, "run", given=f"{at}/stdin")
-            with open(f"{at}/stdout", encoding="utf-8") as it:
-                if status or it.read() not in said:
-                    return f"what {program} prints for its stored input"
-        ran = subprocess.run([f"{self.folder}/tests/programs.sh"], stdout=subprocess.PIPE, stderr=subprocess.STDOUT, text=True)
-        if ran.returncode:
-            return ran.stdout.split(": status")[0].replace("programs: ", "tests/programs.sh, ", 1)
-        return "" if self.rt(crate, "test")[0] == 0 else "the crate's tests"
-
-
-def verdict(status, said):
-    """What a check came to, and the lines that say why: as `rt must-fail` reads them."""
-    lines = said.splitlines()
-    if status == 0:
-        return "through", []
-    unread = r"(\./)?(src|specs)/\S+?:\d+:\d+: error: (?!`)|(\./)?(src|specs)/\S+: error: .*(is not in scope|has no field|is no name)"
-    bad = [it for it in lines if re.match(unread, it) or re.search(r"\berror\[[\w-]+\]", it)]
-    told = [it for it in lines if re.match(r"(note: )?\S+:\d+:\d+:", it)]
-    told = [it for it in told if ": error" in it or it.startswith("note: ")] or told
-    told = [it for it in told if "large solution" not in it]
-    if bad:
-        return "bad", bad[:2]
-    if status in (1, 3) and told:
-        return "refused", [it[:300] for it in told[:6]]
-    return ("refused" if status == 3 else "untried"), [it[:300] for it in lines[-6:]]
-
-
 class Log:
     """What became of each bug, a line for each."""
 
@@ -202,9 +96,9 @@ class Log:
         elif os.path.isfile(path):
             sys.exit(f"plant_bugs: {path} is there already: go on with it by --resume, or name another")
 
-    def note(self, bug, became, said, shown, seconds):
+    def note(self, bug, became, said, shown):
         found = {"key": key_of(bug), "function": name_of(bug), "file": bug.item.file, "kind": bug.kind, "old": bug.old, "new": bug.new}
-        found.update(became=became, said=said, shown=shown, seconds=round(seconds, 1))
+        found.update(became=became, said=said, shown=shown)
         with self.lock:
             self.done[found["key"]] = found
             with open(self.path, "a", encoding="utf-8") as it:
@@ -215,33 +109,64 @@ class Log:
                 print("so far: %d refused, %d let through, %d not compiled, %d not tried" % tuple(counts), flush=True)
 
 
+class Queue:
+    """What is still to be planted: first one bug in each function, then in each constant, which stands alone, since all that uses it is proved anew; then
+    the others. At any time a function has one bug at most."""
+
+    def __init__(self, plan, log, together):
+        self.plan, self.log, self.together = plan, log, together
+        self.busy, self.lock = set(), threading.Lock()
+
+    def next_of(self, bugs, wanted):
+        """The next bug of a function, if it hasn't as many as are wanted; after too many that don't compile there is none."""
+        became = [self.log.done[key_of(bug)]["became"] if key_of(bug) in self.log.done else None for bug in bugs[: wanted * (1 + PASSED_OVER)]]
+        planted = became.count("refused") + became.count("through")
+        return next((bug for bug, it in zip(bugs, became) if it is None), None) if planted < wanted else None
+
+    def take(self):
+        """The next bugs of one crate, each in another function; none if nothing is left but what others work on."""
+        with self.lock:
+            for is_constant, is_first in ((False, True), (True, True), (False, False), (True, False)):
+                group = []
+                for name, bugs, wanted in self.plan:
+                    if name in self.busy or is_constant != name.split("/")[-1].split("::")[-1].isupper():
+                        continue
+                    bug = self.next_of(bugs, 1 if is_first else wanted)
+                    if bug and len(group) < (1 if is_constant else self.together) and (not group or group[0].item.crate == bug.item.crate):
+                        group.append(bug)
+                if group:
+                    self.busy.update(name_of(bug) for bug in group)
+                    return group
+            return []
+
+    def put_back(self, group):
+        with self.lock:
+            self.busy.difference_update(name_of(bug) for bug in group)
+
+
 def plant(options):
     plan, _ = planned(options)
     log = Log(options.log, options.resume)
     work = options.work or tempfile.mkdtemp(prefix="bugs-")
-    base = base_of(work, options.jobs)
-    rooms = [Room(base, f"{work}/room{n}") for n in range(options.jobs)]
+    base = base_of(ROOT, work, options.jobs)
+    queue = Queue(plan, log, options.together)
     print(f"{sum(n for _, _, n in plan)} bugs in {len(plan)} functions and constants", flush=True)
 
-    def work_on(task):
-        _, bugs, wanted = task
-        planted, tries = 0, wanted * (1 + PASSED_OVER)
-        for bug in bugs[:tries]:
-            if planted == wanted:
+    def work_on(number):
+        room = Room(base, f"{work}/room{number}")
+        while True:
+            group = queue.take()
+            if not group and not queue.busy:
                 return
-            if key_of(bug) not in log.done:
-                with lock:
-                    room = rooms.pop()
-                start = time.time()
-                try:
-                    log.note(bug, *room.try_bug(bug), time.time() - start)
-                finally:
-                    rooms.append(room)
-            planted += log.done[key_of(bug)]["became"] in ("refused", "through")
+            try:
+                for bug, found in room.try_bugs(group) if group else ():
+                    log.note(bug, *found)
+            finally:
+                queue.put_back(group)
+            time.sleep(0 if group else 1)
 
-    lock = threading.Lock()
     with ThreadPoolExecutor(options.jobs) as pool:
-        for _ in pool.map(work_on, in_rounds(plan)):
+        for _ in pool.map(work_on, range(options.jobs)):
             pass
     if not options.work:
         shutil.rmtree(work, ignore_errors=True)
@@ -269,6 +194,7 @@ def options_of(words):
     parser.add_argument("--only", metavar="CRATE/FUNCTION", help="only functions whose name has this in it")
     parser.add_argument("--kind", choices=NAMES, help="only bugs of this kind")
     parser.add_argument("--jobs", type=int, default=2, help="how many are checked at a time; 2 if left out")
+    parser.add_argument("--together", type=int, default=10, help="how many, in different functions of a crate, are checked in one go; 10 if left out")
     parser.add_argument("--work", metavar="FOLDER", help="where the copies of the repository stand; they stay there, and serve the next run")
     options = parser.parse_args(words)
     if not options.list and not options.log:

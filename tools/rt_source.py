@@ -5,8 +5,8 @@ import re
 from collections import namedtuple
 
 Token = namedtuple("Token", "kind text start end")
-# A function or a constant with code: its crate, its file, its name, the offsets of its code, the parameters' types, and the file's text.
-Item = namedtuple("Item", "crate file name start end params text tokens")
+# A function or a constant with code: its crate, its file, its name, where it begins, the offsets of its code, the parameters' types, and the file's text.
+Item = namedtuple("Item", "crate file name head start end params text tokens")
 # What the crates declare: the fields of each struct and of each variant, the variants of each enum, the types of constants, and what a file imports.
 Words = namedtuple("Words", "fields variants consts imports")
 
@@ -146,13 +146,13 @@ def items_of(crate, file, text):
             if not name.endswith("_stands"):
                 whole = f"{of}::{name}{argument}" if of else name
                 params = params_of(tokens, paren + 1, closing(tokens, paren))
-                yield Item(crate, file, whole, tokens[brace].start, tokens[end].end, params, text, tokens[brace : end + 1])
+                yield Item(crate, file, whole, t.start, tokens[brace].start, tokens[end].end, params, text, tokens[brace : end + 1])
             i = end
         elif t.text == "const" and tokens[i + 1].kind == "word":
             equals = next(j for j in range(i, len(tokens)) if tokens[j].text == "=")
             end = parts(tokens, equals + 1, len(tokens), ";")[0][1]
             of = owners[-1][1][0] + "::" if owners else ""
-            yield Item(crate, file, of + tokens[i + 1].text, tokens[equals].end, tokens[end].start, {}, text, tokens[equals + 1 : end])
+            yield Item(crate, file, of + tokens[i + 1].text, t.start, tokens[equals].end, tokens[end].start, {}, text, tokens[equals + 1 : end])
             i = end
         i += 1
 
