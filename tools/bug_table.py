@@ -3,6 +3,7 @@ import json
 import re
 
 from bug_kinds import NAMES
+from rt_source import read_all
 
 BEGIN = "<!-- what follows, up to the end mark, is written by tools/plant_bugs.py --table -->"
 END = "<!-- end mark -->"
@@ -21,7 +22,7 @@ CLASSES = {
     "clause": "what a function ensures doesn't hold",
     "invariant": "the invariant of a loop, or the equation that stands for it, doesn't hold",
     "asked": "what a function that is called asks for doesn't hold",
-    "safety": "an index, a sum or a difference isn't shown to be in range",
+    "safety": "an index, a sum or a difference isn't shown to be in range, or a divisor not to be 0",
     "end": "a loop isn't shown to end",
     "equation": "an equation in a written proof doesn't hold",
     "limit": "a limit of the prover, which gave no verdict",
@@ -41,7 +42,7 @@ def class_of(note):
         return "clause"
     if "invariant" in first or about.startswith("loop"):
         return "invariant"
-    if "fits its type" in first or re.match(r"overflow|index|in_range|bounds|fits|underflow", about) or "in range" in first or "within" in first:
+    if re.match(r"overflow|index|in_range|bounds|fits|nonzero", about):
         return "safety"
     if "asks" in first or "requires" in first or about.startswith(("requires", "call")):
         return "asked"
@@ -107,8 +108,22 @@ def by_function(notes):
         yield f"- `{crate}`: {', '.join(said)}"
 
 
+def is_constant(name):
+    return name.split("/")[-1].split("::")[-1].isupper()
+
+
+def left_out(notes, root):
+    """The functions and constants in which nothing was planted."""
+    planted = {n["function"] for n in notes if n["became"] != "bad"}
+    names = [f"{item.crate}/{item.name}" for item in read_all(root)[0]]
+    left = [name for name in names if name not in planted]
+    yield f"Nothing that compiles was found to plant in: {', '.join(f'`{it}`' for it in left if not is_constant(it)) or 'none'}."
+    if any(is_constant(it) for it in left):
+        yield f"Not tried: {sum(is_constant(it) for it in left)} of the {sum(is_constant(it) for it in names)} constants."
+
+
 def not_refused(notes):
-    for n in sorted((n for n in notes if n["became"] == "through"), key=lambda n: n["key"]):
+    for n in sorted((n for n in notes if n["became"] == "through"), key=lambda n: n["key"].lower()):
         new = f"`{n['new']}`" if n["new"] else "nothing"
         yield f"- `{n['function']}`, {n['kind']}: {new} in the place of `{n['old']}`" + (f"; shown by {n['shown']}" if n["shown"] else "")
 
@@ -119,7 +134,7 @@ def write(root, log):
     with open(page, encoding="utf-8") as it:
         text = it.read()
     blocks = [[summary(notes)], by_crate(notes), by_kind(notes), by_class(notes)]
-    blocks += [["By function, how many were planted:"], by_function(notes), ["Not refused:"], not_refused(notes)]
+    blocks += [["By function, how many were planted:"], by_function(notes), left_out(notes, root), ["Not refused:"], not_refused(notes)]
     made = "\n\n".join("\n".join(it) for it in blocks)
     head, rest = text.split(BEGIN)
     tail = rest.split(END)[1]

@@ -110,26 +110,27 @@ class Log:
 
 
 class Queue:
-    """What is still to be planted: first one bug in each function, then in each constant, which stands alone, since all that uses it is proved anew; then
-    the others. At any time a function has one bug at most."""
+    """What is still to be planted: first one bug in each function, then the others, then those in constants, each alone, since all that uses it is proved
+    anew. At any time a function has one bug at most."""
 
     def __init__(self, plan, log, together):
         self.plan, self.log, self.together = plan, log, together
         self.busy, self.lock = set(), threading.Lock()
 
     def next_of(self, bugs, wanted):
-        """The next bug of a function, if it hasn't as many as are wanted; after too many that don't compile there is none."""
-        became = [self.log.done[key_of(bug)]["became"] if key_of(bug) in self.log.done else None for bug in bugs[: wanted * (1 + PASSED_OVER)]]
-        planted = became.count("refused") + became.count("through")
-        return next((bug for bug, it in zip(bugs, became) if it is None), None) if planted < wanted else None
+        """The next bug of a function, if it hasn't as many as are wanted; after too many that don't compile there is none. One that is refused only since
+        a proof names what isn't there any more doesn't count here."""
+        notes = [self.log.done.get(key_of(bug)) for bug in bugs[: wanted * (1 + PASSED_OVER)]]
+        planted = [n for n in notes if n and (n["became"] == "through" or n["became"] == "refused" and bug_table.class_of(n) != "fit")]
+        return next((bug for bug, n in zip(bugs, notes) if not n), None) if len(planted) < wanted else None
 
     def take(self):
         """The next bugs of one crate, each in another function; none if nothing is left but what others work on."""
         with self.lock:
-            for is_constant, is_first in ((False, True), (True, True), (False, False), (True, False)):
+            for is_constant, is_first in ((False, True), (False, False), (True, False)):
                 group = []
                 for name, bugs, wanted in self.plan:
-                    if name in self.busy or is_constant != name.split("/")[-1].split("::")[-1].isupper():
+                    if name in self.busy or is_constant != bug_table.is_constant(name):
                         continue
                     bug = self.next_of(bugs, 1 if is_first else wanted)
                     if bug and len(group) < (1 if is_constant else self.together) and (not group or group[0].item.crate == bug.item.crate):
