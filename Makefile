@@ -1,4 +1,4 @@
-.PHONY: run test beside bench
+.PHONY: run test beside bugs bench
 
 # Proves and builds the board program, and plays a sample of sayings.
 run:
@@ -21,3 +21,8 @@ beside:
 bench:
 	cd crates/keeper_c && rt lib
 	$(MAKE) -C bench measure WORD="$(WORD)"
+
+# Plants bugs one at a time, and asks the prover whether it refuses each (docs/BUGS.md). Takes an hour or two, and goes on where it was interrupted.
+bugs:
+	tools/plant_bugs.py --log out/bugs.jsonl --resume
+	tools/plant_bugs.py --log out/bugs.jsonl --table
