@@ -18,11 +18,17 @@ mod words;
 mod worst;
 
 use anyhow::Context;
+use program::Program;
 use std::env;
 use std::process::ExitCode;
 use trying::try_all;
 use words::{Wish, wish_of};
 use worst::try_worst;
+
+const GARBAGE: Program = Program {
+    name: "garbage",
+    help: HELP,
+};
 
 const HELP: &str = "\
 usage: garbage SEED COUNT
@@ -61,9 +67,5 @@ fn obey(rt: &HostRuntime) -> anyhow::Result<()> {
 }
 
 fn main(rt: HostRuntime) -> ExitCode {
-    let Err(e) = obey(&rt) else {
-        return ExitCode::SUCCESS;
-    };
-    let _ = eprintln!(&rt; "garbage: {e:#}");
-    ExitCode::FAILURE
+    GARBAGE.end(&rt, obey(&rt))
 }
