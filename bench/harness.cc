@@ -4,12 +4,12 @@
 #include <chrono>
 #include <cstdio>
 #include <cstdlib>
-#include <cstring>
 
 namespace {
 using Clock = std::chrono::steady_clock;
 using Peers = std::vector<std::unique_ptr<Peer>>;
 constexpr int ROUNDS = 5;
+constexpr size_t SAYINGS = 20000;
 
 const char *HELP = "usage: harness [WORD]\n"
                    "\n"
@@ -19,17 +19,24 @@ const char *HELP = "usage: harness [WORD]\n"
 
 double nanoseconds(Clock::duration time) { return std::chrono::duration<double, std::nano>(time).count(); }
 
+// How many sayings weren't refused, and how long all took.
 struct Round {
     size_t done;
     double time;
 };
 
+// A short workload is played up to ten times, each time on a fresh board, until so many sayings were timed.
 Round play(Peer &peer, const Workload &work) {
-    peer.start_anew();
-    peer.say(work.before);
-    auto start = Clock::now();
-    size_t done = peer.say(work.timed);
-    return {done, nanoseconds(Clock::now() - start)};
+    Round round = {0, 0};
+    size_t times = std::clamp<size_t>(SAYINGS / work.timed.size(), 1, 10);
+    for (size_t i = 0; i < times; i++) {
+        peer.start_anew();
+        peer.say(work.before);
+        auto start = Clock::now();
+        round.done = peer.say(work.timed);
+        round.time += nanoseconds(Clock::now() - start) / static_cast<double>(times);
+    }
+    return round;
 }
 
 double median(std::vector<double> times) {
@@ -61,12 +68,14 @@ void check_alike(const Peers &peers, const std::vector<size_t> &done) {
         }
 }
 
+// The peers take turns, in one order and in the next round in the other.
 void measure(const Peers &peers, const Workload &work) {
     std::vector<std::vector<double>> times(peers.size());
     std::vector<size_t> done(peers.size());
     for (int round = 0; round < ROUNDS; round++) {
         std::fprintf(stderr, "%zu cards, %s: round %d of %d\n", work.cards, work.name.c_str(), round + 1, ROUNDS);
-        for (size_t i = 0; i < peers.size(); i++) {
+        for (size_t turn = 0; turn < peers.size(); turn++) {
+            size_t i = round % 2 == 0 ? turn : peers.size() - 1 - turn;
             Round played = play(*peers[i], work);
             done[i] = played.done;
             times[i].push_back(played.time / static_cast<double>(work.timed.size()));
