@@ -1,5 +1,6 @@
 #include "workloads.h"
 #include <algorithm>
+#include <initializer_list>
 #include <numeric>
 #include <set>
 #include <unordered_set>
@@ -80,6 +81,14 @@ std::vector<Saying> links(const Board &board, const std::vector<Pair> &pairs) {
     return sayings;
 }
 
+// Each link is put in and taken out again.
+void in_and_out(std::vector<Saying> &sayings, const Board &board, std::initializer_list<Pair> pairs) {
+    for (Pair pair : pairs) {
+        sayings.push_back(board.link(pair));
+        sayings.push_back(board.unlink(pair));
+    }
+}
+
 void append(std::vector<Saying> &sayings, const std::vector<Saying> &more) {
     sayings.insert(sayings.end(), more.begin(), more.end());
 }
@@ -120,10 +129,7 @@ Workload long_parts(size_t n, size_t chain, const char *name) {
     }
     for (int turn = 0; turn < 4; turn++)
         for (auto [back, forth] : swaps)
-            for (Pair pair : {back, forth}) {
-                work.timed.push_back(board.link(pair));
-                work.timed.push_back(board.unlink(pair));
-            }
+            in_and_out(work.timed, board, {back, forth});
     return work;
 }
 
@@ -208,10 +214,7 @@ Workload everything_moves(size_t n) {
             work.before.push_back(board.link({i, i + 1}));
     Pair back = {n - 1, 0}, forth = {half - 1, half};
     for (int turn = 0; turn < 20; turn++)
-        for (Pair pair : {back, forth}) {
-            work.timed.push_back(board.link(pair));
-            work.timed.push_back(board.unlink(pair));
-        }
+        in_and_out(work.timed, board, {back, forth});
     return work;
 }
 
