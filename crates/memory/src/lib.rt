@@ -2,5 +2,7 @@
 #![tactic(auto)]
 
 mod column;
+mod layout;
 
 pub use column::{Column, MEMORY, Memory};
+pub use layout::{LINKS_BASE, PAD, ROW_BASE};

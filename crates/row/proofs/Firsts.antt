@@ -1,34 +1,35 @@
--- The first of two cards that is met in a row stands before the other; the links that numbers spell, as pairs.
-use Rattle.std.proofs.Common.{◌≡◌, ℕ, zero, suc, ◌+◌, ◌*◌, ◌/◌, ◌≤◌, Bool, false, cond, not, ◌||◌, eqb, ltb, List, [], ◌∷◌, length, slice_index, Some, None, refl, arith}
-use Rattle.std.proofs.lemmas.Bool.Decides.{nat_tests}
-use Rattle.std.specs.List.{find, position_or_len}
-use Rattle.std.specs.Simd.{first_chunks}
-use Rattle.row.specs.Lists.{place}
-use Rattle.row.specs.Lookup.{given}
-use Rattle.row.specs.Kept.{before, links_of, broken_pair, first_broken}
+-- The first number from one on that passes a test.
+use Rattle.std.proofs.Common.{◌≡◌, ℕ, zero, suc, ◌+◌, ◌-◌, ◌<◌, ◌≤◌, min, Bool, true, false, List, sym, refl, ap, ◌∙◌, inl, inr, arith}
+use Rattle.std.proofs.lemmas.Bool.{cases_lt, cases_eq}
+use Rattle.row.specs.declared.layout.TheConstants.{SEATS_MOST}
+use Rattle.row.specs.Meaning.{taken}
+use Rattle.row.specs.Telling.{first_from, next_seat}
+use Rattle.row.specs.Laws.{Next}
 
--- the first of the two decides
-pub first_met : (row : List ℕ) (a b : ℕ) → before row a b ≡ given (find (λ x. eqb x a || eqb x b) row) false (λ x. not (eqb x b))
-unfolding before place
-first_met [] a b = refl
-first_met (x ∷ row) a b = let ih = first_met row a b in grind (arith, nat_tests)
+module _ (f : ℕ → Bool) where
+  pub first_is : (n p q : ℕ) → p ≤ q → q < p + n → f q ≡ true → ((r : ℕ) → p ≤ r → r < q → f r ≡ false) → first_from f n p ≡ q
+  unfolding first_from
+  first_is zero p q l u h o = absurd (omega arith)
+  first_is (suc n) p q l u h o = elim (cases_eq p q) [
+    | inl e ↦ let t : f p ≡ true = ap f e ∙ h in rw t e
+    | inr ne ↦ let t = o p (omega arith) (omega arith) in rw t (first_is n (p + 1) q (omega arith) (omega arith) h (λ r a b. o r (omega arith) b))
+  ]
 
--- the pairs of the numbers are their links
-module _ (row : List ℕ) where
-  abbrev test : List ℕ → Bool
-  test p = not (before row (slice_index p 0) (slice_index p 1))
+  pub first_none : (n p : ℕ) → ((r : ℕ) → p ≤ r → r < p + n → f r ≡ false) → first_from f n p ≡ p + n
+  unfolding first_from
+  first_none zero p o = omega arith
+  first_none (suc n) p o =
+      let t = o p (omega arith) (omega arith) in
+      rw t (first_none n (p + 1) (λ r a b. o r (omega arith) (omega arith)) ∙ omega arith)
 
-  -- the first that passes, where the pairs are counted from i
-  pairs_from : (k : ℕ) (ns : List ℕ) (i : ℕ) → k * 2 ≤ length ns → length ns ≤ k * 2 + 1 →
-      cond (ltb (position_or_len test (first_chunks 2 k ns)) (length (first_chunks 2 k ns))) (Some (i + position_or_len test (first_chunks 2 k ns))) None
-      ≡ first_broken row (links_of ns) i
-  unfolding first_broken links_of
-  pairs_from zero [] i l h = refl
-  pairs_from zero (a ∷ []) i l h = refl
-  pairs_from zero (a ∷ b ∷ ns) i l h = absurd (omega arith)
-  pairs_from (suc k) [] i l h = absurd (omega arith)
-  pairs_from (suc k) (a ∷ []) i l h = absurd (omega arith)
-  pairs_from (suc k) (a ∷ b ∷ ns) i l h = let ih = pairs_from k ns (i + 1) (omega arith) (omega arith) in grind (arith, nat_tests)
-
-  pub pairs_are : (ns : List ℕ) → broken_pair row (first_chunks 2 (length ns / 2) ns) ≡ first_broken row (links_of ns) 0
-  pairs_are ns = let e = pairs_from (length ns / 2) ns 0 (omega arith) (omega arith) in grind arith
+pub next_is : (m : List ℕ) (p q : ℕ) → Next (taken m) p q → q ≡ next_seat m p
+unfolding next_seat
+next_is m p q x = elim (cases_lt q SEATS_MOST) [
+  | inl l ↦
+      let a = x.from l in
+      let e : min p SEATS_MOST ≡ p = omega arith in
+      sym (ap (first_from (taken m) (SEATS_MOST - p)) e ∙ first_is (taken m) (SEATS_MOST - p) p q a (omega arith) (x.here l) x.first)
+  | inr l ↦
+      let a = x.room in
+      sym (first_none (taken m) (SEATS_MOST - p) (min p SEATS_MOST) (λ r b c. x.first r (omega arith) (omega arith)) ∙ omega arith)
+]

@@ -1,0 +1,4 @@
+pub mod Lists
+pub mod Board
+pub mod Renaming
+pub mod Outcomes
