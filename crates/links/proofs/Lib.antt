@@ -1,0 +1,4 @@
+mod Pairing
+mod Turns
+mod Filtering
+mod Parting
