@@ -1,4 +1,0 @@
-pub mod Lists
-pub mod Options
-pub mod Board
-pub mod Reordering
