@@ -2,10 +2,11 @@
 use Rattle.std.proofs.Common.{◌≡◌, ℕ, suc, ◌+◌, ◌<◌, ◌≤◌, true, false, cond, not, ◌||◌, eqb, ◌∷◌, sym, ap, ◌∙◌, inl, inr, arith}
 use Rattle.std.proofs.lemmas.Bool.Decides.{nat_tests}
 use Rattle.std.proofs.lemmas.Bool.{cases_eq, cases_lt, eq-eqb, ne_eqb, both_ways, and_from, lt-ltb, le-ltb}
-use Rattle.row.specs.Lists.{any, has, distinct}
+use Rattle.order.specs.Lists.{any, has, distinct}
 use Rattle.row.specs.Lookup.{bucket}
 use Rattle.row.specs.Meaning.{in_use, Chains, Standing}
-use Rattle.row.proofs.Chaining.{spells_move, spells_entered, has_at}
+use Rattle.row.proofs.Chaining.{spells_move, spells_entered}
+use Rattle.order.proofs.Members.{has_at}
 
 pub bucket_below : (k : ℕ) → bucket k < 8192
 unfolding bucket

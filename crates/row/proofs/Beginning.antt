@@ -7,14 +7,14 @@ use Rattle.std.proofs.lemmas.List.{get_or-replicate, get_or_past, get_or-take, g
 use Rattle.std.proofs.lemmas.Simd.{map-map}
 use Rattle.std.proofs.lemmas.List.FromFn.{length-map-range_with_len, get_or-map-range_with_len}
 use Rattle.std.specs.List.{range_with_len}
-use Rattle.row.specs.declared.column.Column.{Column}
-use Rattle.row.specs.Lists.{any, distinct}
-use Rattle.row.specs.Columns.{cell}
+use Rattle.memory.specs.declared.column.Column.{Column}
+use Rattle.order.specs.Lists.{any, distinct}
+use Rattle.memory.specs.Columns.{cell}
 use Rattle.row.specs.Layout.{tally, ids, chain, slots, places, count, fresh}
 use Rattle.row.specs.Telling.{told, told_count}
 use Rattle.row.specs.Meaning.{in_use, cards, Stands}
 use Rattle.row.specs.Laws.{Begins, Tells}
-use Rattle.row.proofs.Tabulated.{take_made}
+use Rattle.order.proofs.Tabulated.{take_made}
 use Rattle.row.proofs.Present.{length_cards}
 
 read_zeros : (n i : ℕ) → get_or {A = ℕ} (replicate n 0) i 0 ≡ 0

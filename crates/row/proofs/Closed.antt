@@ -1,11 +1,11 @@
 -- A card goes, in its memory: the columns after it.
 use Rattle.std.proofs.Common.{◌≡◌, ℕ, zero, suc, ◌+◌, ◌<◌, ◌≤◌, true, ◌⊎◌, List, length, sym, refl, ap, ◌∙◌, inl, inr, add-one, arith}
 use Rattle.std.proofs.lemmas.Bool.{cases_eq}
-use Rattle.row.specs.declared.column.Column.{Column}
-use Rattle.row.specs.Columns.{cell, written, apart}
+use Rattle.memory.specs.declared.column.Column.{Column}
+use Rattle.memory.specs.Columns.{cell, written, apart}
 use Rattle.row.specs.Layout.{slots, places}
 use Rattle.row.specs.Moves.{shifted}
-use Rattle.row.proofs.Cells.{length_written, cell_same, cell_other, cell_apart}
+use Rattle.memory.proofs.Cells.{length_written, cell_same, cell_other, cell_apart}
 
 -- one card moved one place to the left
 abbrev moved : List ℕ → ℕ → List ℕ

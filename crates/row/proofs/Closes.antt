@@ -1,15 +1,16 @@
 -- A card goes under the invariant: the columns after it are those of a row with one card less.
 use Rattle.std.proofs.Common.{◌≡◌, ℕ, suc, ◌+◌, ◌-◌, ◌<◌, ◌≤◌, true, ltb, List, [], ◌∷◌, length, sym, refl, ap, ◌∙◌, inl, inr, arith}
 use Rattle.std.proofs.lemmas.Bool.{cases_eq, eq-eqb, ne_eqb, and_parts, ltb-true}
-use Rattle.row.specs.declared.column.Column.{Column}
-use Rattle.row.specs.Lists.{has}
-use Rattle.row.specs.Columns.{cell, written, apart}
+use Rattle.memory.specs.declared.column.Column.{Column}
+use Rattle.order.specs.Lists.{has}
+use Rattle.memory.specs.Columns.{cell, written, apart}
 use Rattle.row.specs.Layout.{tally, ids, chain, slots, places, count, fresh}
 use Rattle.row.specs.Lookup.{bucket, entry, withdrawn}
 use Rattle.row.specs.Moves.{shifted, last, closed}
 use Rattle.row.specs.Meaning.{used, Stands}
-use Rattle.row.proofs.Cells.{length_written, cell_same, cell_other, cell_apart}
-use Rattle.row.proofs.Chaining.{holder, has_head, has_tail}
+use Rattle.memory.proofs.Cells.{length_written, cell_same, cell_other, cell_apart}
+use Rattle.row.proofs.Chaining.{holder}
+use Rattle.order.proofs.Members.{has_head, has_tail}
 use Rattle.row.proofs.Arriving.{bucket_below}
 use Rattle.row.proofs.Leaving.{Leaves}
 use Rattle.row.proofs.Closed.{length_shifted, shifted_apart, shifted_out, shifted_in, shifted_places, shifted_place}

@@ -1,9 +1,9 @@
 -- The steps of the loop that closes the row.
 use Rattle.std.proofs.Common.{◌≡◌, ℕ, ◌+◌, ◌-◌, ◌<◌, ◌≤◌, List}
-use Rattle.row.specs.Columns.{cell, written}
+use Rattle.memory.specs.Columns.{cell, written}
 use Rattle.row.specs.Layout.{slots, places}
 use Rattle.row.specs.Moves.{shifted}
-use Rattle.row.proofs.Fuel.{fuel_step, fuel_end}
+use Rattle.memory.proofs.Fuel.{fuel_step, fuel_end}
 
 pub shifted_go : (N i : ℕ) (m : List ℕ) → i < N →
     shifted (N - i) m i ≡ shifted (N - (i + 1)) (written (written m slots i (cell m slots (i + 1))) places (cell m slots (i + 1)) i) (i + 1)

@@ -3,15 +3,15 @@ use Rattle.std.proofs.Common.{◌≡◌, ℕ, suc, ◌<◌, ◌≤◌, true, fal
 use Rattle.std.proofs.lemmas.Bool.{lt-ltb, le-ltb, both_ways}
 use Rattle.std.proofs.lemmas.List.FromFn.{map-range_with_len_more}
 use Rattle.std.specs.List.{range_with_len}
-use Rattle.row.specs.declared.board.Refusal.TheVariants.{Exists, Full}
-use Rattle.row.specs.Lists.{has}
-use Rattle.row.specs.Columns.{cell}
+use Rattle.order.specs.declared.board.Refusal.TheVariants.{Exists, Full}
+use Rattle.order.specs.Lists.{has}
+use Rattle.memory.specs.Columns.{cell}
 use Rattle.row.specs.Layout.{ids, chain, slots, places, count, fresh}
 use Rattle.row.specs.Lookup.{found}
 use Rattle.row.specs.Moves.{Outcome, refused, room, slot_for, arrived, came}
 use Rattle.row.specs.Meaning.{used, cards, Standing, Stands}
 use Rattle.row.specs.Laws.{Came, ComesAppends}
-use Rattle.row.proofs.Tabulated.{made_same}
+use Rattle.order.proofs.Tabulated.{made_same}
 use Rattle.row.proofs.Arriving.{Arrives, arrived_standing, free}
 use Rattle.row.proofs.Arrived.{length_arrived, arrived_count, slot_below, took, arrives}
 use Rattle.row.proofs.Present.{length_cards, card_slot, found_there, found_absent, has_card, slot_used}

@@ -1,11 +1,11 @@
 -- What the row means depends on the columns of this crate alone.
 use Rattle.std.proofs.Common.{◌≡◌, ℕ, ◌+◌, List, map, sym, refl, ap, ◌∙◌, subst, arith}
 use Rattle.std.specs.List.{range_with_len}
-use Rattle.row.specs.Columns.{cell}
+use Rattle.memory.specs.Columns.{cell}
 use Rattle.row.specs.Layout.{ids, chain, slots, places, count, fresh}
 use Rattle.row.specs.Meaning.{in_use, Standing, Stands}
 use Rattle.row.specs.Laws.{SameRow, Depends}
-use Rattle.row.proofs.Tabulated.{made_same}
+use Rattle.order.proofs.Tabulated.{made_same}
 use Rattle.row.proofs.Chaining.{spells_move}
 
 module _ (n f : ℕ) (id next slot place id' next' slot' place' : ℕ → ℕ) (i : (j : ℕ) → id' j ≡ id j) (x : (j : ℕ) → next' j ≡ next j)

@@ -5,7 +5,7 @@ use Rattle.row.specs.Layout.{tally, chain}
 use Rattle.row.specs.Lookup.{bucket, found, sought, withdrawn}
 use Rattle.row.specs.Moves.{room, arrived, closed, came, gone}
 use Rattle.row.specs.Laws.{OnlyRow, ElseStays}
-use Rattle.row.proofs.Cells.{length_written, cell_apart}
+use Rattle.memory.proofs.Cells.{length_written, cell_apart}
 use Rattle.row.proofs.Arrived.{length_arrived, arrived_apart, arrived_tally}
 use Rattle.row.proofs.Closes.{length_closed, closed_apart, closed_tally}
 

@@ -1,16 +1,16 @@
 -- A card that goes leaves the others in their order.
 use Rattle.std.proofs.Common.{◌≡◌, ℕ, suc, ◌-◌, ◌<◌, ◌≤◌, true, not, eqb, List, map, Some, None, Ok, sym, refl, ap, ◌∙◌, subst, arith}
 use Rattle.std.specs.List.{range_with_len}
-use Rattle.row.specs.declared.board.Refusal.TheVariants.{Missing}
+use Rattle.order.specs.declared.board.Refusal.TheVariants.{Missing}
 use Rattle.row.specs.declared.chains.Entry.{Entry}
-use Rattle.row.specs.Lists.{filter}
-use Rattle.row.specs.Columns.{cell}
+use Rattle.order.specs.Lists.{filter}
+use Rattle.memory.specs.Columns.{cell}
 use Rattle.row.specs.Layout.{tally, ids, chain, slots, places, count, fresh}
 use Rattle.row.specs.Lookup.{bucket, entry, sought, withdrawn}
 use Rattle.row.specs.Moves.{Outcome, refused, closed, gone}
 use Rattle.row.specs.Meaning.{used, Standing, Stands}
 use Rattle.row.specs.Laws.{Gone, GoesFilters}
-use Rattle.row.proofs.Tabulated.{filter_made}
+use Rattle.order.proofs.Tabulated.{filter_made}
 use Rattle.row.proofs.Leaving.{Leaves, left_standing}
 use Rattle.row.proofs.Closes.{length_closed, closed_tally, closed_count, long_w, last_w, q≤, facts, w_apart, used_below, leaves, h, w}
 use Rattle.row.proofs.Present.{card_slot, card_one, used_place, sought_there, sought_absent}

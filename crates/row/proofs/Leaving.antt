@@ -2,11 +2,12 @@
 use Rattle.std.proofs.Common.{◌≡◌, ℕ, suc, ◌+◌, ◌-◌, ◌<◌, ◌≤◌, true, false, cond, not, eqb, sym, refl, ap, ◌∙◌, inl, inr, arith}
 use Rattle.std.proofs.lemmas.Bool.Decides.{nat_tests}
 use Rattle.std.proofs.lemmas.Bool.{cases_eq, cases_lt, eq-eqb, ne_eqb, both_ways, and_parts, and_from, le-ltb, ltb-true, eqb-true}
-use Rattle.row.specs.Lists.{has}
+use Rattle.order.specs.Lists.{has}
 use Rattle.row.specs.Lookup.{bucket}
 use Rattle.row.specs.Meaning.{in_use, Chains, Standing}
-use Rattle.row.proofs.Filters.{has_filter, distinct_filter}
-use Rattle.row.proofs.Chaining.{holder, holder_apart, without, spells_move, spells_withdrawn}
+use Rattle.order.proofs.Filters.{has_filter, distinct_filter}
+use Rattle.row.proofs.Chaining.{holder, holder_apart, spells_move, spells_withdrawn}
+use Rattle.order.proofs.Members.{without}
 use Rattle.row.proofs.Arriving.{bucket_below}
 
 -- the columns after the card in the slot s went, from the place q, of c + 1 cards; h is the pointer that held it

@@ -3,13 +3,13 @@ use Rattle.std.proofs.Common.{◌≡◌, ℕ, zero, suc, ◌+◌, ◌-◌, ◌<�
 use Rattle.std.specs.List.{range_with_len}
 use Rattle.std.proofs.lemmas.Bool.{and_from}
 use Rattle.std.proofs.lemmas.Simd.{map-map}
-use Rattle.row.specs.Lists.{every, has, place}
-use Rattle.row.specs.Columns.{cell}
+use Rattle.order.specs.Lists.{every, has, place}
+use Rattle.memory.specs.Columns.{cell}
 use Rattle.row.specs.Layout.{ids, slots, places, count}
 use Rattle.row.specs.Meaning.{used, row_of, cards, Stands}
-use Rattle.row.specs.Renaming.{named}
+use Rattle.order.specs.Renaming.{named}
 use Rattle.row.specs.Laws.{SlotsNamed}
-use Rattle.row.proofs.Tabulated.{has_made, place_made}
+use Rattle.order.proofs.Tabulated.{has_made, place_made}
 use Rattle.row.proofs.Present.{slot_used, used_place}
 
 every_made : (D : ℕ → Bool) (f : ℕ → ℕ) (a n : ℕ) → ((p : ℕ) → a ≤ p → p < a + n → D (f p) ≡ true) → every D (map f (range_with_len a n)) ≡ true

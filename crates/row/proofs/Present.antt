@@ -2,15 +2,16 @@
 use Rattle.std.proofs.Common.{◌≡◌, ℕ, ◌-◌, ◌<◌, true, false, ltb, List, length, Some, None, sym, refl, ap, ◌∙◌, inl, inr, arith}
 use Rattle.std.proofs.lemmas.Bool.{cases_Bool, eq-eqb, and_parts, and_from, lt-ltb, ltb-true, both_ways}
 use Rattle.std.proofs.lemmas.List.FromFn.{length-map-range_with_len}
-use Rattle.row.specs.Lists.{has, place}
-use Rattle.row.specs.Columns.{cell}
+use Rattle.order.specs.Lists.{has, place}
+use Rattle.memory.specs.Columns.{cell}
 use Rattle.row.specs.Layout.{ids, slots, places, count, fresh}
 use Rattle.row.specs.Lookup.{bucket, entry, sought, found}
 use Rattle.row.specs.Moves.{place_found}
 use Rattle.row.specs.Meaning.{used, cards, Stands}
 use Rattle.row.specs.Laws.{Apart, Finds}
-use Rattle.row.proofs.Tabulated.{made_has, has_made, place_made, distinct_made}
-use Rattle.row.proofs.Chaining.{few_below, holder}
+use Rattle.order.proofs.Tabulated.{made_has, has_made, place_made, distinct_made}
+use Rattle.order.proofs.Members.{few_below}
+use Rattle.row.proofs.Chaining.{holder}
 use Rattle.row.proofs.Sought.{sought_none, sought_some}
 use Rattle.row.proofs.Arriving.{bucket_below}
 use Rattle.row.proofs.Closes.{chain_below}

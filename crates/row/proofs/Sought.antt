@@ -1,13 +1,14 @@
 -- Seeking in a memory whose pointers spell a chain.
 use Rattle.std.proofs.Common.{◌≡◌, ℕ, zero, suc, ◌+◌, ◌<◌, ◌≤◌, true, false, List, [], ◌∷◌, length, Some, None, refl, ap, ◌∙◌, inl, inr, arith}
 use Rattle.std.proofs.lemmas.Bool.{cases_eq, eq-eqb, ne_eqb, both_ways}
-use Rattle.row.specs.Lists.{any, has}
-use Rattle.row.specs.Columns.{cell}
+use Rattle.order.specs.Lists.{any, has}
+use Rattle.memory.specs.Columns.{cell}
 use Rattle.row.specs.Layout.{ids, chain}
 use Rattle.row.specs.Lookup.{followed, entry, sought}
 use Rattle.row.specs.Meaning.{Spells}
 use Rattle.row.proofs.Walking.{held_none, held_some}
-use Rattle.row.proofs.Chaining.{holder, has_head, has_tail, has_on}
+use Rattle.row.proofs.Chaining.{holder}
+use Rattle.order.proofs.Members.{has_head, has_tail, has_on}
 
 module _ (m : List ℕ) where
   pub followed_none : (p : ℕ) → cell m chain p ≡ 0 → followed m p ≡ None

@@ -5,10 +5,12 @@ use Rattle.std.specs.Option.{option_map}
 use Rattle.std.proofs.lemmas.Bool.Decides.{nat_tests}
 use Rattle.std.proofs.lemmas.Bool.{cases_Bool, or_parts, ltb-false, eqb-false, cond_both}
 use Rattle.row.specs.declared.chains.Entry.{Entry}
-use Rattle.row.specs.declared.column.Column.{Column}
-use Rattle.row.specs.Columns.{cell}
+use Rattle.memory.specs.declared.column.Column.{Column}
+use Rattle.memory.specs.Columns.{cell}
 use Rattle.row.specs.Chains.{held}
-use Rattle.row.specs.Lookup.{given, entry}
+use Rattle.memory.specs.Options.{given}
+use Rattle.row.specs.Lookup.{entry}
+use Rattle.memory.proofs.Options.{given_holds}
 use Rattle.row.specs.Walks.{walked}
 
 module _ (c : Column) (h n : ℕ) (m : List ℕ) (p : ℕ) where
@@ -28,12 +30,6 @@ module _ (c : Column) (h n : ℕ) (m : List ℕ) (p : ℕ) where
   walked_on (suc f) l i e = let j : suc f - 1 ≡ f = omega arith in rw (e, j) refl
 
 pub ruleset walks = (walked_over, walked_stop, walked_on)
-
--- what is so of nothing, and of what f makes of each thing that may be in an Option, is so of what is given
-pub given_holds : {X Y : Type 0} (A : Option X → Type 0) (B : Y → Type 0) (o : Option X) (z : Y) (f : X → Y) → A o → B z → ((x : X) → A (Some x) → B (f x)) →
-    B (given o z f)
-given_holds A B None z f a b k = b
-given_holds A B (Some x) z f a b k = k x a
 
 -- finding in what a walk meets: at its end, or at the first entry and behind it
 pub find_given : {X : Type 0} (v : Entry → X) (test : Entry → Bool) (p : ℕ) (o : Option ℕ) (g : ℕ → Option X) (w : ℕ → List Entry) →

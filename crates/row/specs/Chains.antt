@@ -5,8 +5,8 @@
 --   put_first c h n m k l  the memory after the entry l was put in front of the chain of k
 --   taken_out c h n m p l  the memory after the entry l, which the pointer p holds, was taken out of its chain
 use Rattle.std.specs.Prelude.{ℕ, ◌+◌, ◌-◌, ◌*◌, ◌%◌, cond, ◌||◌, List, Some, None, Option, ◌==◌, nat_lt}
-use Rattle.row.specs.declared.column.Column.{Column}
-use Rattle.row.specs.Columns.{cell, written}
+use Rattle.memory.specs.declared.column.Column.{Column}
+use Rattle.memory.specs.Columns.{cell, written}
 
 abbrev pub spread : ℕ → ℕ
 spread k = k * 11400714819323198485 % 18446744073709551616

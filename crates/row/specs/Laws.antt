@@ -16,13 +16,13 @@
 --   SameRow        two memories agree on the columns of this crate
 --   Depends        what the row means depends on the columns of this crate alone
 use Rattle.std.specs.Prelude.{◌≡◌, ℕ, ◌+◌, ◌<◌, ◌≤◌, true, false, cond, not, ◌&&◌, List, [], ◌∷◌, ◌++◌, map, length, take, drop, replicate, Some, None, Ok, ◌==◌}
-use Rattle.row.specs.declared.board.Refusal.TheVariants.{Missing, Exists, Full}
-use Rattle.row.specs.declared.board.Link.{Link}
-use Rattle.row.specs.declared.column.Column.{Column}
-use Rattle.row.specs.Lists.{every, has, place, distinct, filter}
-use Rattle.row.specs.Board.{Board}
-use Rattle.row.specs.Renaming.{named, renamed, Naming}
-use Rattle.row.specs.Columns.{cell, apart}
+use Rattle.order.specs.declared.board.Refusal.TheVariants.{Missing, Exists, Full}
+use Rattle.order.specs.declared.board.Link.{Link}
+use Rattle.memory.specs.declared.column.Column.{Column}
+use Rattle.order.specs.Lists.{every, has, place, distinct, filter}
+use Rattle.order.specs.Board.{Board}
+use Rattle.order.specs.Renaming.{named, renamed, Naming}
+use Rattle.memory.specs.Columns.{cell, apart}
 use Rattle.row.specs.Layout.{tally, ids, chain, slots, places}
 use Rattle.row.specs.Lookup.{found}
 use Rattle.row.specs.Moves.{refused, came, gone, place_found}

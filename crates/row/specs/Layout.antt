@@ -6,8 +6,8 @@
 --   slots    by place: the slot of the card that stands there, and behind the cards the slots that are free again
 --   places   by slot: its place
 use Rattle.std.specs.Prelude.{ℕ, List}
-use Rattle.row.specs.declared.column.Column.{Column}
-use Rattle.row.specs.Columns.{cell}
+use Rattle.memory.specs.declared.column.Column.{Column}
+use Rattle.memory.specs.Columns.{cell}
 
 abbrev pub tally : Column
 tally = record { base = 0; size = 64 }

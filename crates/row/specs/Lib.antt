@@ -1,12 +1,3 @@
-pub mod Lists
-pub mod Board
-pub mod Commands
-pub mod Theory
-pub mod Week
-pub mod Excluded
-pub mod Renaming
-pub mod Kept
-pub mod Columns
 pub mod Chains
 pub mod Layout
 pub mod Lookup

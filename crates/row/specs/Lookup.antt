@@ -1,7 +1,6 @@
 -- From a card's number to its slot, as the code goes.
 --
 --   bucket k         the bucket of a card
---   given o z f      f of what is in an Option, z where there is nothing
 --   Below o          what is in it, if anything is, is a slot; EntryBelow: the slot of what is in it
 --   followed m p     the slot that a pointer holds
 --   sought f m p k   the entry of a card in the chain from a pointer on, in at most f steps
@@ -10,16 +9,13 @@
 --   withdrawn m e    the memory after an entry was taken out of its chain
 use Rattle.std.specs.Prelude.{ℕ, zero, suc, ◌+◌, ◌/◌, ◌<◌, cond, List, Some, None, Option, ◌==◌}
 use Rattle.row.specs.declared.chains.Entry.{Entry}
-use Rattle.row.specs.Columns.{cell, written}
+use Rattle.memory.specs.Options.{given}
+use Rattle.memory.specs.Columns.{cell, written}
 use Rattle.row.specs.Chains.{spread, held}
 use Rattle.row.specs.Layout.{ids, chain}
 
 unfoldable pub bucket : ℕ → ℕ
 bucket k = spread k / 2251799813685248
-
-abbrev pub given : {X Y : Type 0} → Option X → Y → (X → Y) → Y
-given None z f = z
-given (Some x) z f = f x
 
 abbrev pub Below : Option ℕ → Type 0
 Below None = Unit {0}

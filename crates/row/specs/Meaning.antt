@@ -10,8 +10,8 @@
 --   Stands m           the memory is long enough, and its columns stand so
 use Rattle.std.specs.Prelude.{◌≡◌, ℕ, suc, ◌+◌, ◌<◌, ◌≤◌, Bool, true, ◌&&◌, List, [], ◌∷◌, map, length, ◌==◌, nat_lt}
 use Rattle.std.specs.List.{range_with_len}
-use Rattle.row.specs.Lists.{has, distinct}
-use Rattle.row.specs.Columns.{cell}
+use Rattle.order.specs.Lists.{has, distinct}
+use Rattle.memory.specs.Columns.{cell}
 use Rattle.row.specs.Layout.{ids, chain, slots, places, count, fresh}
 use Rattle.row.specs.Lookup.{bucket}
 

@@ -14,11 +14,12 @@
 --   closed m s       the slot s taken out of the row
 --   gone m k         a card went
 use Rattle.std.specs.Prelude.{ℕ, zero, suc, ◌+◌, ◌-◌, min, cond, List, Some, None, Ok, Err, Option, Result, nat_lt}
-use Rattle.row.specs.declared.board.Refusal.{Refusal}
-use Rattle.row.specs.declared.board.Refusal.TheVariants.{Missing, Exists, Full}
-use Rattle.row.specs.Columns.{cell, written}
+use Rattle.order.specs.declared.board.Refusal.{Refusal}
+use Rattle.order.specs.declared.board.Refusal.TheVariants.{Missing, Exists, Full}
+use Rattle.memory.specs.Columns.{cell, written}
 use Rattle.row.specs.Layout.{tally, slots, places, count, fresh}
-use Rattle.row.specs.Lookup.{given, bucket, sought, found, entered, withdrawn}
+use Rattle.memory.specs.Options.{given}
+use Rattle.row.specs.Lookup.{bucket, sought, found, entered, withdrawn}
 
 pub record Outcome : Type 0 where
   pub answer : Result ℕ Refusal

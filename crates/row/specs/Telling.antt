@@ -4,7 +4,7 @@
 --   told m p n out        `out` after the cards from the place p on, n of them, were written to its front
 --   told_count m p n out  how many were written
 use Rattle.std.specs.Prelude.{ℕ, ◌+◌, Bool, cond, ◌&&◌, List, ◌++◌, map, length, take, drop, nat_le}
-use Rattle.row.specs.Columns.{cell}
+use Rattle.memory.specs.Columns.{cell}
 use Rattle.row.specs.Layout.{ids, slots}
 
 abbrev pub tellable : List ℕ → ℕ → ℕ → List ℕ → Bool

@@ -3,11 +3,11 @@
 --   walked f c h n m p  the entries from the pointer p on, each with the pointer that holds it, at most f of them
 --   walk_left w         those that a walk has left
 use Rattle.std.specs.Prelude.{ℕ, zero, suc, ◌+◌, List, [], ◌∷◌}
-use Rattle.row.specs.declared.column.Column.{Column}
+use Rattle.memory.specs.declared.column.Column.{Column}
 use Rattle.row.specs.declared.chains.Entry.{Entry}
 use Rattle.row.specs.declared.walk.Walk.{Walk}
 use Rattle.row.specs.Chains.{held}
-use Rattle.row.specs.Lookup.{given}
+use Rattle.memory.specs.Options.{given}
 
 unfoldable pub walked : ℕ → Column → ℕ → ℕ → List ℕ → ℕ → List Entry
 walked zero c h n m p = []

@@ -3,10 +3,10 @@
 // A chain is gone through by its pointers, not by its entries: an entry goes with the pointer that holds it, so that taking it out is one write, the same
 // for the first of a chain and for any other.
 ghost use Rattle.std.specs.Prelude.{◌≡◌, ◌+◌, ◌<◌, ◌^◌, IfSome};
-ghost use Rattle.row.specs.Columns.{wiped};
+ghost use Rattle.memory.specs.Columns.{wiped};
 ghost use Rattle.row.specs.Chains.{spread, held, put_first, taken_out};
 
-use crate::column::Column;
+use memory::{Column, Memory};
 
 // A number spread over all that a u64 can be, by multiplication with 2^64 over the golden ratio. The bucket of a key is the front of its number.
 pub fn spread(key: u64) -> u64
@@ -34,7 +34,7 @@ pub struct Entry {
 
 impl Family {
     // The entry that a pointer holds; 0 wraps round to none.
-    pub fn follow(self, memory: &[u64], pointer: u64) -> Option<u64>
+    pub fn follow(self, memory: &Memory, pointer: u64) -> Option<u64>
         ensures is { result ≡ held self.pointers self.entries memory.now pointer }
         ensures below { IfSome result (λ entry. entry < self.entries) }
     {
@@ -43,14 +43,14 @@ impl Family {
     }
 
     // Empties all chains; the entries still point where they did.
-    pub fn empty(self, memory: &mut [u64])
+    pub fn empty(self, memory: &mut Memory)
         ensures { memory.new ≡ wiped self.heads memory.old self.pointers 0 }
     {
         self.pointers.blank(memory, self.heads);
     }
 
     // Puts an entry in front of the chain of a key; nothing, if there is no such entry.
-    pub fn push(self, memory: &mut [u64], key: u64, entry: u64)
+    pub fn push(self, memory: &mut Memory, key: u64, entry: u64)
         ensures { memory.new ≡ put_first self.pointers self.heads self.entries memory.old key entry }
     {
         if entry >= self.entries {
@@ -62,7 +62,7 @@ impl Family {
     }
 
     // Takes an entry out of its chain; nothing, if there is no such entry.
-    pub fn unlink(self, memory: &mut [u64], entry: Entry)
+    pub fn unlink(self, memory: &mut Memory, entry: Entry)
         ensures { memory.new ≡ taken_out self.pointers self.heads self.entries memory.old entry.pointer entry.number }
     {
         if entry.number >= self.entries {

@@ -1,10 +1,8 @@
 // Where the columns of this crate lie in the lent memory. They begin at different offsets within a page, which keeps them out of each other's cache
 // lines.
 use crate::chains::Family;
-use crate::column::Column;
-
-// How many cards there may be at once.
-pub const CARDS: u64 = 8192;
+use memory::Column;
+use order::CARDS;
 
 // Single numbers; COUNT and FRESH are this crate's.
 pub const TALLY: Column = Column { base: 0, size: 64 };

@@ -4,6 +4,7 @@ ghost use Rattle.row.specs.Lookup.{bucket, sought, found, entered, withdrawn, Be
 
 use crate::chains::{Entry, spread};
 use crate::layout::{BUCKET, CHAINS, IDS};
+use memory::Memory;
 
 // The bucket of a card.
 #[tactic(auto, unfolding(crate::specs::Lookup::bucket))]
@@ -14,7 +15,7 @@ fn bucket_of(card: u64) -> u64
 }
 
 // The entry of a card, which is its slot.
-pub(crate) fn seek(memory: &[u64], card: u64) -> Option<Entry>
+pub(crate) fn seek(memory: &Memory, card: u64) -> Option<Entry>
     ensures is { result ≡ sought 8192 memory.now (bucket card) card }
     ensures below { EntryBelow result }
 {
@@ -25,7 +26,7 @@ pub(crate) fn seek(memory: &[u64], card: u64) -> Option<Entry>
 
 // The slot of a card, if it's there.
 #[tactic(auto, unfolding(crate::specs::Lookup::found))]
-pub fn find(memory: &[u64], card: u64) -> Option<u64>
+pub fn find(memory: &Memory, card: u64) -> Option<u64>
     ensures is { result ≡ found memory.now card }
     ensures below { Below result }
 {
@@ -33,8 +34,8 @@ pub fn find(memory: &[u64], card: u64) -> Option<u64>
 }
 
 // Gives the slot to a card, first in its chain.
-#[tactic(auto, using(crate::proofs::Cells::cell_apart), unfolding(crate::specs::Lookup::entered))]
-pub(crate) fn enter(memory: &mut [u64], slot: u64, card: u64)
+#[tactic(auto, using(memory::proofs::Cells::cell_apart), unfolding(crate::specs::Lookup::entered))]
+pub(crate) fn enter(memory: &mut Memory, slot: u64, card: u64)
     requires { slot < 8192 }
     ensures { memory.new ≡ entered memory.old slot card }
 {
@@ -44,7 +45,7 @@ pub(crate) fn enter(memory: &mut [u64], slot: u64, card: u64)
 
 // Takes an entry out of its chain.
 #[tactic(auto, unfolding(crate::specs::Lookup::withdrawn))]
-pub(crate) fn withdraw(memory: &mut [u64], entry: Entry)
+pub(crate) fn withdraw(memory: &mut Memory, entry: Entry)
     requires { entry.number < 8192 }
     ensures { memory.new ≡ withdrawn memory.old entry }
 {

@@ -4,12 +4,13 @@ ghost use Rattle.std.specs.Iterator.{YieldsFirst, item_count};
 ghost use Rattle.row.specs.Walks.{walked, walk_left};
 
 use crate::chains::{Entry, Family};
+use memory::Memory;
 
 // The entries of a chain, from a pointer on, each with the pointer that holds it. In a garbage memory a chain may go round: a walk has no more steps than
 // its family has entries. A walk holds the memory lent, so a loop that writes to it in each turn goes by its own pointer instead, in counted turns.
 #[derive(Clone, Debug, Drop)]
 pub struct Walk<'m> {
-    memory: &'m [u64],
+    memory: &'m Memory,
     family: Family,
     pointer: u64,
     steps: u64,
@@ -17,7 +18,7 @@ pub struct Walk<'m> {
 
 impl Family {
     // The entries from a pointer on.
-    pub fn walk(self, memory: &[u64], pointer: u64) -> Walk<'_>
+    pub fn walk(self, memory: &Memory, pointer: u64) -> Walk<'_>
         ensures { walk_left result ≡ walked self.entries self.pointers self.heads self.entries memory.now pointer }
     {
         Walk {

@@ -1,7 +1,7 @@
 use Rattle.std.proofs.Common.{arith}
-use Rattle.row.specs.Columns.{cell}
+use Rattle.memory.specs.Columns.{cell}
 use Rattle.row.specs.Layout.{ids}
-use Rattle.row.proofs.Fronts.{front_more, front_all}
+use Rattle.order.proofs.Fronts.{front_more, front_all}
 use Rattle.row.proofs.telling.name_all.Goals as goal
 
 pub loop-i-preserved : goal.loop-i-preserved

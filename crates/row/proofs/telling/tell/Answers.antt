@@ -1,9 +1,9 @@
 use Rattle.std.proofs.Common.{◌+◌, ◌∙◌, arith}
 use Rattle.std.proofs.lemmas.Bool.Decides.{nat_tests}
-use Rattle.row.specs.Columns.{cell}
+use Rattle.memory.specs.Columns.{cell}
 use Rattle.row.specs.Layout.{ids}
 use Rattle.row.specs.Telling.{told, told_count}
-use Rattle.row.proofs.Fronts.{part_is}
+use Rattle.order.proofs.Fronts.{part_is}
 use Rattle.row.proofs.telling.tell.Goals as goal
 
 pub returns : goal.returns
