@@ -16,6 +16,7 @@ use Rattle.std.specs.Prelude.{ℕ, zero, suc, ◌+◌, ◌-◌, ◌^◌, ◌%◌
 use Rattle.std.specs.Option.{option_map}
 use Rattle.std.specs.List.{find}
 use Rattle.memory.specs.Columns.{cell, written}
+use Rattle.memory.specs.Options.{given}
 use Rattle.order.specs.declared.board.TheConstants.{CARDS}
 use Rattle.order.specs.declared.board.Link.{Link}
 use Rattle.order.specs.declared.board.Refusal.{Refusal}
@@ -23,7 +24,7 @@ use Rattle.order.specs.declared.board.Refusal.TheVariants.{Missing}
 use Rattle.chains.specs.declared.cells.Pointer.{Pointer}
 use Rattle.chains.specs.declared.chain_table.ChainTable.{ChainTable}
 use Rattle.chains.specs.Tables.{node, pushed, unhooked, cleared}
-use Rattle.chains.specs.Walks.{given, met, walked}
+use Rattle.chains.specs.Walks.{met, walked}
 use Rattle.links.specs.declared.layout.TheConstants.{ENTRIES, LIVE, USED, OUT, IN, AGE, ALL, FREE, PAIR}
 use Rattle.links.specs.Pairs.{is_between, pair, bucket}
 
