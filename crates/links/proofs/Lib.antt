@@ -2,3 +2,4 @@ mod Pairing
 mod Turns
 mod Filtering
 mod Parting
+pub mod Writing
