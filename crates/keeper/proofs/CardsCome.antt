@@ -1,21 +1,21 @@
 -- A card comes: the memory means the board with one card more.
 use Rattle.std.proofs.Common.{◌≡◌, ℕ, ◌<◌, ◌≤◌, Bool, true, false, ◌&&◌, List, [], ◌∷◌, ◌++◌, map, length, Ok, sym, refl, ap, ◌∙◌, subst, ap₂, inl, inr, arith}
 use Rattle.std.proofs.lemmas.Bool.{cases_Bool, cases_lt, le-leb, lt-leb, and_parts, both_ways}
-use Rattle.row.specs.declared.board.Link.{Link}
-use Rattle.row.specs.declared.board.Command.TheVariants.{Comes}
-use Rattle.row.specs.declared.board.Refusal.TheVariants.{Exists, Full}
-use Rattle.row.specs.Lists.{every, has}
-use Rattle.row.specs.Board.{Board, fine}
-use Rattle.row.specs.Commands.{refusal, may_be, row_before, links_after}
-use Rattle.row.specs.Columns.{cell}
+use Rattle.order.specs.declared.board.Link.{Link}
+use Rattle.command.specs.declared.command.Command.TheVariants.{Comes}
+use Rattle.order.specs.declared.board.Refusal.TheVariants.{Exists, Full}
+use Rattle.order.specs.Lists.{every, has}
+use Rattle.order.specs.Board.{Board, fine}
+use Rattle.command.specs.Commands.{refusal, may_be, row_before, links_after}
+use Rattle.memory.specs.Columns.{cell}
 use Rattle.row.specs.Layout.{ids, slots, count}
 use Rattle.std.proofs.lemmas.List.FromFn.{length-map-range_with_len}
 use Rattle.row.specs.Moves.{Outcome, came}
 use Rattle.row.specs.Meaning.{used, row_of, cards}
-use Rattle.row.specs.Renaming.{named}
+use Rattle.order.specs.Renaming.{named}
 use Rattle.row.specs.Laws.{Came, OnlyRow}
-use Rattle.row.proofs.Filters.{same_itself}
-use Rattle.row.proofs.Staying.{stays}
+use Rattle.order.proofs.Filters.{same_itself}
+use Rattle.command.proofs.Staying.{stays}
 use Rattle.row.proofs.Present.{length_cards}
 use Rattle.row.proofs.Named.{cards_named}
 use Rattle.row.proofs.Coming.{comes_appends}

@@ -1,16 +1,17 @@
 -- One command at its end, from the record of its run: for each command that is done, for a refusal, and for a link that would go round.
 use Rattle.std.proofs.Common.{◌≡◌, ℕ, suc, true, false, not, ◌&&◌, ◌||◌, eqb, ◌≢◌, List, [], ◌∷◌, ◌++◌, Some, None, refl, arith}
 use Rattle.std.proofs.lemmas.Bool.{both_ways}
-use Rattle.row.specs.declared.board.Link.{Link}
-use Rattle.row.specs.declared.board.Command.{Command}
-use Rattle.row.specs.declared.board.Command.TheVariants.{Comes, Goes, Link as Links, Unlink as Unlinks, Places}
-use Rattle.row.specs.declared.board.Refusal.{Refusal}
-use Rattle.row.specs.declared.board.Refusal.TheVariants.{Cycle}
-use Rattle.row.specs.Lists.{every, filter, place}
-use Rattle.row.specs.Board.{Board, keeps, fine}
-use Rattle.row.specs.Commands.{number, refusal, Told, told_rows, row_before, links_after, after, with_link, backward, firm, must_be, goes_round}
-use Rattle.row.proofs.Filters.{same_itself}
-use Rattle.row.proofs.Climbs.{fine_parts}
+use Rattle.order.specs.declared.board.Link.{Link}
+use Rattle.command.specs.declared.command.Command.{Command}
+use Rattle.command.specs.declared.command.Command.TheVariants.{Comes, Goes, Link as Links, Unlink as Unlinks, Places}
+use Rattle.order.specs.declared.board.Refusal.{Refusal}
+use Rattle.order.specs.declared.board.Refusal.TheVariants.{Cycle}
+use Rattle.order.specs.Lists.{every, filter, place}
+use Rattle.order.specs.Board.{Board, keeps, fine}
+use Rattle.order.specs.Reordering.{number, with_link, backward, firm, goes_round}
+use Rattle.command.specs.Commands.{refusal, Told, told_rows, row_before, links_after, after, must_be}
+use Rattle.order.proofs.Filters.{same_itself}
+use Rattle.order.proofs.Climbs.{fine_parts}
 use Rattle.keeper.specs.Engine.{Engine, Ran, ran, run_of}
 use Rattle.keeper.specs.Promise.{shown_for, Refused, RoundShown}
 use Rattle.keeper.specs.Sister.{within, ToldNeeded, DoneFirm}

@@ -2,9 +2,9 @@
 use Rattle.std.proofs.Common.{◌≡◌, ℕ, zero, suc, leb, ◌≢◌, List, [], ◌∷◌, length, refl, inl, inr, arith}
 use Rattle.std.proofs.lemmas.Bool.{cases_Bool}
 use Rattle.std.proofs.lemmas.Bool.Decides.{nat_tests as tests}
-use Rattle.row.specs.declared.board.Command.TheVariants.{Comes}
-use Rattle.row.specs.Lists.{every, any}
-use Rattle.row.specs.Commands.{Told, refusal}
+use Rattle.command.specs.declared.command.Command.TheVariants.{Comes}
+use Rattle.order.specs.Lists.{every, any}
+use Rattle.command.specs.Commands.{Told, refusal}
 use Rattle.keeper.specs.declared.event.Event.{Event}
 use Rattle.keeper.specs.declared.event.Event.TheVariants.{Said, Next}
 use Rattle.keeper.specs.Engine.{Action, tells, shows, done, refused, Engine, one_act, runs}

@@ -1,19 +1,20 @@
 -- A link is made that the row keeps already, or is refused at once.
 use Rattle.std.proofs.Common.{◌≡◌, ℕ, ◌<◌, ◌≤◌, true, false, ◌&&◌, List, [], ◌∷◌, ◌++◌, map, length, is_some, Some, None, Option, Ok, Err, sym, refl, ap, ◌∙◌, subst, ap₂, inl, inr, arith}
 use Rattle.std.proofs.lemmas.Bool.{cases_Bool, cases_eq, cases_lt, both_ways, eq-eqb, ne_eqb, le-ltb, le-leb, lt-leb, and_from}
-use Rattle.row.proofs.Leading.{leads_just, leads_before}
-use Rattle.row.specs.declared.board.Link.{Link}
-use Rattle.row.specs.declared.board.Command.TheVariants.{Link as Links}
-use Rattle.row.specs.declared.board.Refusal.TheVariants.{Missing, Exists, Cycle, Full}
-use Rattle.row.specs.Lists.{any, has, distinct}
-use Rattle.row.specs.Board.{Board, ◌⟶◌, linked, leads, fine}
-use Rattle.row.specs.Commands.{refusal, may_be, with_link, backward, goes_round, follows, last_of}
-use Rattle.row.specs.Columns.{cell}
+use Rattle.order.proofs.Leading.{leads_just, leads_before}
+use Rattle.order.specs.declared.board.Link.{Link}
+use Rattle.command.specs.declared.command.Command.TheVariants.{Link as Links}
+use Rattle.order.specs.declared.board.Refusal.TheVariants.{Missing, Exists, Cycle, Full}
+use Rattle.order.specs.Lists.{any, has, distinct}
+use Rattle.order.specs.Board.{Board, ◌⟶◌, linked, leads, fine}
+use Rattle.command.specs.Commands.{refusal, may_be}
+use Rattle.order.specs.Reordering.{with_link, backward, goes_round, follows, last_of}
+use Rattle.memory.specs.Columns.{cell}
 use Rattle.row.specs.Layout.{ids, slots, places}
 use Rattle.row.specs.Meaning.{used, row_of, cards, Stands}
-use Rattle.row.specs.Renaming.{named}
-use Rattle.row.proofs.Filters.{same_itself}
-use Rattle.row.proofs.Allowed.{Open}
+use Rattle.order.specs.Renaming.{named}
+use Rattle.order.proofs.Filters.{same_itself}
+use Rattle.order.proofs.Allowed.{Open}
 use Rattle.row.proofs.Depending.{depends}
 use Rattle.row.proofs.Closes.{used_below}
 use Rattle.row.proofs.Named.{has_slot, place_slot, cards_named}

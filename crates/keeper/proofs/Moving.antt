@@ -1,16 +1,17 @@
 -- A link that goes backward and can be kept: the row is settled for it and told, and the memory means the board with the link.
 use Rattle.std.proofs.Common.{◌≡◌, ℕ, ◌<◌, ◌≤◌, true, false, ◌&&◌, List, [], ◌∷◌, ◌++◌, map, length, None, sym, refl, ap, ◌∙◌, subst, ap₂, arith}
 use Rattle.std.proofs.lemmas.Bool.{lt-ltb, le-leb, lt-leb}
-use Rattle.row.specs.declared.board.Link.{Link}
-use Rattle.row.specs.declared.board.Command.TheVariants.{Link as Links}
-use Rattle.row.specs.declared.board.Refusal.TheVariants.{Full}
-use Rattle.row.specs.Lists.{any, has, place}
-use Rattle.row.specs.Board.{Board, ◌⟶◌, linked, leads, fine}
-use Rattle.row.specs.Commands.{refusal, with_link, backward}
-use Rattle.row.specs.Columns.{cell}
+use Rattle.order.specs.declared.board.Link.{Link}
+use Rattle.command.specs.declared.command.Command.TheVariants.{Link as Links}
+use Rattle.order.specs.declared.board.Refusal.TheVariants.{Full}
+use Rattle.order.specs.Lists.{any, has, place}
+use Rattle.order.specs.Board.{Board, ◌⟶◌, linked, leads, fine}
+use Rattle.command.specs.Commands.{refusal}
+use Rattle.order.specs.Reordering.{with_link, backward}
+use Rattle.memory.specs.Columns.{cell}
 use Rattle.row.specs.Layout.{ids, slots, places, count}
 use Rattle.row.specs.Meaning.{used, row_of, cards, Stands}
-use Rattle.row.specs.Renaming.{named}
+use Rattle.order.specs.Renaming.{named}
 use Rattle.row.proofs.Depending.{depends}
 use Rattle.row.proofs.Closes.{used_below}
 use Rattle.row.proofs.Named.{has_slot, place_slot, cards_named, row_used}
@@ -37,11 +38,12 @@ use Rattle.keeper.proofs.CardsGo.{all_named}
 use Rattle.keeper.proofs.TwoCards.{Seated, leads_is, backward_is, backward_places}
 use Rattle.std.proofs.lemmas.List.FromFn.{length-map-range_with_len}
 use lib.ListN.{length-map}
-use Rattle.row.proofs.Only.{must_may}
-use Rattle.row.proofs.Filters.{every_more}
-use Rattle.row.specs.Commands.{firm, must_be}
-use Rattle.row.specs.Board.{keeps}
-use Rattle.row.specs.Lists.{every}
+use Rattle.command.proofs.Staying.{must_may}
+use Rattle.order.proofs.Filters.{every_more}
+use Rattle.order.specs.Reordering.{firm}
+use Rattle.command.specs.Commands.{must_be}
+use Rattle.order.specs.Board.{keeps}
+use Rattle.order.specs.Lists.{every}
 use Rattle.links.specs.Layout.{live}
 use Rattle.search.specs.Layout.{fore, hind}
 use Rattle.search.specs.Settle.{forgotten, settled}

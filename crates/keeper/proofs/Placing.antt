@@ -1,11 +1,11 @@
 -- The places of two cards are asked for: they are shown, and the memory means the same board.
 use Rattle.std.proofs.Common.{◌≡◌, ℕ, true, false, List, [], ◌∷◌, Some, None, Ok, refl, ap, ◌∙◌, inl, inr, arith}
 use Rattle.std.proofs.lemmas.Bool.{cases_Bool}
-use Rattle.row.specs.declared.board.Command.TheVariants.{Places}
-use Rattle.row.specs.declared.board.Refusal.TheVariants.{Missing}
-use Rattle.row.specs.Lists.{has, place}
-use Rattle.row.specs.Board.{Board}
-use Rattle.row.specs.Commands.{refusal}
+use Rattle.command.specs.declared.command.Command.TheVariants.{Places}
+use Rattle.order.specs.declared.board.Refusal.TheVariants.{Missing}
+use Rattle.order.specs.Lists.{has, place}
+use Rattle.order.specs.Board.{Board}
+use Rattle.command.specs.Commands.{refusal}
 use Rattle.row.specs.Moves.{place_found}
 use Rattle.row.specs.Meaning.{cards}
 use Rattle.links.specs.Meaning.{edges, once}

@@ -1,7 +1,7 @@
 -- The row that is read from a memory that means a board is the board's.
 use Rattle.std.proofs.Common.{◌≡◌, ℕ, List, ◌++◌, length, drop, sym, ap, ◌∙◌, arith}
 use Rattle.std.proofs.lemmas.List.{take_all}
-use Rattle.row.specs.Board.{Board}
+use Rattle.order.specs.Board.{Board}
 use Rattle.row.specs.Layout.{count}
 use Rattle.row.specs.Meaning.{cards}
 use Rattle.row.proofs.Present.{length_cards}

@@ -1,14 +1,15 @@
 -- Two engines that meet the firmer promise come to the same board.
 use Rattle.std.proofs.Common.{◌≡◌, ℕ, true, List, [], ◌∷◌, Some, None, Option, sym, refl, ap, ◌∙◌, subst, inl, inr}
 use Rattle.std.proofs.lemmas.Bool.{cases_Bool}
-use Rattle.row.specs.declared.board.Command.{Command}
-use Rattle.row.specs.declared.board.Command.TheVariants.{Comes, Goes, Link as Links, Unlink as Unlinks, Places}
-use Rattle.row.specs.declared.board.Refusal.{Refusal}
-use Rattle.row.specs.Lists.{every, distinct}
-use Rattle.row.specs.Board.{Board, keeps, fine}
-use Rattle.row.specs.Commands.{refusal, after, links_after, backward, must_be}
-use Rattle.row.proofs.Filters.{same_is}
-use Rattle.row.proofs.Only.{only_one}
+use Rattle.command.specs.declared.command.Command.{Command}
+use Rattle.command.specs.declared.command.Command.TheVariants.{Comes, Goes, Link as Links, Unlink as Unlinks, Places}
+use Rattle.order.specs.declared.board.Refusal.{Refusal}
+use Rattle.order.specs.Lists.{every, distinct}
+use Rattle.order.specs.Board.{Board, keeps, fine}
+use Rattle.command.specs.Commands.{refusal, after, links_after, must_be}
+use Rattle.order.specs.Reordering.{backward}
+use Rattle.order.proofs.Filters.{same_is}
+use Rattle.order.proofs.Only.{only_one}
 use Rattle.keeper.specs.Engine.{Engine, Ran, run_of}
 use Rattle.keeper.specs.Promise.{empty}
 use Rattle.keeper.specs.Sister.{DoneFirm, RightIn, WholeIn, board_after, OneBoard}

@@ -1,20 +1,20 @@
 -- A link is taken back: the memory means the board without it.
 use Rattle.std.proofs.Common.{◌≡◌, ℕ, true, false, not, ◌&&◌, eqb, List, map, is_ok, None, Ok, Err, Result, sym, refl, ap, ◌∙◌, subst, ap₂, inl, inr, arith}
 use Rattle.std.proofs.lemmas.Bool.{cases_Bool, both_ways}
-use Rattle.row.specs.declared.board.Link.{Link}
-use Rattle.row.specs.declared.board.Command.TheVariants.{Unlink as Unlinks}
-use Rattle.row.specs.declared.board.Refusal.{Refusal}
-use Rattle.row.specs.declared.board.Refusal.TheVariants.{Missing}
-use Rattle.row.specs.Lists.{any, has, filter}
-use Rattle.row.specs.Board.{Board, ◌⟶◌, linked, fine}
-use Rattle.row.specs.Commands.{refusal, may_be, row_before, links_after}
-use Rattle.row.specs.Columns.{cell}
+use Rattle.order.specs.declared.board.Link.{Link}
+use Rattle.command.specs.declared.command.Command.TheVariants.{Unlink as Unlinks}
+use Rattle.order.specs.declared.board.Refusal.{Refusal}
+use Rattle.order.specs.declared.board.Refusal.TheVariants.{Missing}
+use Rattle.order.specs.Lists.{any, has, filter}
+use Rattle.order.specs.Board.{Board, ◌⟶◌, linked, fine}
+use Rattle.command.specs.Commands.{refusal, may_be, row_before, links_after}
+use Rattle.memory.specs.Columns.{cell}
 use Rattle.row.specs.Layout.{ids}
 use Rattle.row.specs.Meaning.{used, row_of, cards, Stands}
 use Rattle.row.specs.Moves.{refused}
-use Rattle.row.specs.Renaming.{named}
-use Rattle.row.proofs.Filters.{same_itself}
-use Rattle.row.proofs.Staying.{stays}
+use Rattle.order.specs.Renaming.{named}
+use Rattle.order.proofs.Filters.{same_itself}
+use Rattle.command.proofs.Staying.{stays}
 use Rattle.row.proofs.Depending.{depends}
 use Rattle.row.proofs.Closes.{used_below}
 use Rattle.row.proofs.Named.{cards_named}

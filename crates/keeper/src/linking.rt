@@ -5,15 +5,18 @@ ghost use Rattle.keeper.specs.Answers.{Gives, Ends, as_told};
 ghost use Rattle.keeper.specs.Linking.{slots_found, unlinked, put_in, shown_itself, linked};
 
 use crate::event::{Act, Reason, Telling};
-use crate::layout::{LINKS, Memory, Output};
+use crate::layout::Output;
 use crate::pending::Pending;
 use crate::reordering::reorder;
 use links::{insert, remove};
-use row::{Link, Refusal, find, place_at};
+use memory::Memory;
+use order::{LINKS, Link, Refusal};
+use row::{find, seat_of};
 
 // The slots of two cards, if both are there.
 #[tactic(auto, unfolding(crate::specs::Linking::slots_found))]
-pub fn slots_of(memory: &[u64], link: Link) -> Option<Link>
+#[inline(always)]
+pub fn slots_of(memory: &Memory, link: Link) -> Option<Link>
     ensures { result ≡ slots_found memory.now link }
 {
     Some(Link {
@@ -24,7 +27,7 @@ pub fn slots_of(memory: &[u64], link: Link) -> Option<Link>
 
 // Takes a link between cards back.
 #[tactic(auto, unfolding(crate::specs::Linking::unlinked))]
-pub(crate) fn unlink(memory: &mut [u64], link: Link) -> Result<Act, Reason>
+pub(crate) fn unlink(memory: &mut Memory, link: Link) -> Result<Act, Reason>
     ensures { Ends (unlinked memory.old link) result memory.new }
 {
     let Some(slots) = slots_of(memory, link) else {
@@ -38,7 +41,8 @@ pub(crate) fn unlink(memory: &mut [u64], link: Link) -> Result<Act, Reason>
 
 // Puts a link between slots in, if there's room.
 #[tactic(auto, unfolding(crate::specs::Linking::put_in))]
-fn put_in(memory: &mut [u64], slots: Link) -> Result<Act, Reason>
+#[inline(always)]
+fn put_in(memory: &mut Memory, slots: Link) -> Result<Act, Reason>
     ensures { Ends (put_in memory.old slots) result memory.new }
 {
     if links::len(memory) >= LINKS {
@@ -57,8 +61,9 @@ fn show_itself(memory: &mut Memory, card: u64, out: &mut Output) -> Act
     Act::Shows(1)
 }
 
-// Makes a link between cards.
+// Makes a link between cards. Which of the two stands first is asked of their seats.
 #[tactic(auto, using(crate::proofs::Writing::writing), unfolding(crate::specs::Answers::as_told, crate::specs::Linking::linked))]
+#[inline(always)]
 pub(crate) fn link(
     memory: &mut Memory,
     link: Link,
@@ -76,7 +81,7 @@ pub(crate) fn link(
     if slots.from == slots.to {
         return Ok(show_itself(memory, link.from, out));
     }
-    if place_at(memory, slots.to) < place_at(memory, slots.from) {
+    if seat_of(memory, slots.to) < seat_of(memory, slots.from) {
         return reorder(memory, slots, telling, out);
     }
     put_in(memory, slots)

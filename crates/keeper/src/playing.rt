@@ -1,16 +1,15 @@
 // A command, played to its end.
 ghost use Rattle.std.specs.Prelude.{◌≡◌};
 ghost use Rattle.keeper.specs.Own.{own};
-ghost use Rattle.keeper.specs.Playing.{shown_then, ended_by, played_on, played, Went};
+ghost use Rattle.keeper.specs.Playing.{shown_then, ended_by, played_on, played, Went, read_count, row_read};
 ghost use Rattle.keeper.specs.PlayLaws.{Plays};
 ghost use Rattle.keeper.specs.Promise.{Whole};
 ghost use Rattle.keeper.specs.Sister.{WholeIn};
-ghost use Rattle.row.specs.Layout.{count};
-ghost use Rattle.row.specs.Telling.{told, told_count};
 
 use crate::event::{Act, Event, Reason, Telling};
 use crate::stepping::step_as;
-use row::{Command, len, tell};
+use command::Command;
+use row::{len, tell};
 
 // How a command ended: how many numbers at the front of the output it showed; and that it was done, or why it was refused.
 #[derive(Clone, Copy, Debug, PartialEq, Eq)]
@@ -55,6 +54,7 @@ fn end(answer: Result<Act, Reason>, shown: u64) -> Played
 }
 
 // Goes on from a first answer up to the end of what was said, and passes over what is told. Two more steps are enough, unless the memory isn't a keeper's.
+#[inline(always)]
 pub fn play_on(memory: &mut [u64], first: Result<Act, Reason>, out: &mut [u64]) -> Played
     ensures { Went (played_on 2 memory.old first out.old 0) result memory.new out.new }
 {
@@ -72,6 +72,7 @@ pub fn play_on(memory: &mut [u64], first: Result<Act, Reason>, out: &mut [u64]) 
 
 // Says a command, and goes on until it's at its end; what is told is passed over. The steps are those of the engine that meets the promise; what is played is
 // then done or refused as the board says.
+#[inline(always)]
 pub fn play(memory: &mut [u64], command: Command, out: &mut [u64]) -> Played
     ensures went { Went (played memory.old command out.old) result memory.new out.new }
     ensures whole { Whole own }
@@ -82,10 +83,15 @@ pub fn play(memory: &mut [u64], command: Command, out: &mut [u64]) -> Played
     play_on(memory, first, out)
 }
 
-// Writes the row, as the memory has it, to the front of `row`, and says how many cards it has; nothing if it finds no room.
+// Writes the row, as the memory has it, to the front of `row`, and says how many cards it has; nothing if it finds no room, or if the memory isn't as long as
+// it has to be.
+#[tactic(auto, using(crate::proofs::RowRead::reading))]
 pub fn read_row(memory: &[u64], row: &mut [u64]) -> u64
-    ensures is { result ≡ told_count memory.now 0 (count memory.now) row.old }
-    ensures row { row.new ≡ told memory.now 0 (count memory.now) row.old }
+    ensures is { result ≡ read_count memory.now row.old }
+    ensures row { row.new ≡ row_read memory.now row.old }
 {
+    let Some(memory) = memory.as_array() else {
+        return 0;
+    };
     tell(memory, 0, len(memory), row)
 }

@@ -3,3 +3,6 @@ mod Turns
 mod Filtering
 mod Parting
 pub mod Writing
+mod Coming
+mod Freeing
+mod Dropping

@@ -2,18 +2,16 @@
 ghost use Rattle.std.specs.Prelude.{◌≡◌, [], ◌∷◌};
 ghost use Rattle.memory.specs.Footprints.{Writes};
 ghost use Rattle.links.specs.Entries.{live, free_entry, taken, freed};
-ghost use Rattle.links.specs.Laws.{Counts};
 
 use crate::layout::{AGE, ENTRIES, FREE, LIVE, PAIR, USED};
 use chains::Pointer;
 use memory::Memory;
 
 // How many links there are.
-#[tactic(auto, using(crate::proofs::Promises::promises))]
+
 #[inline(always)]
 pub fn len(memory: &Memory) -> u64
     ensures is { result ≡ live memory.now }
-    ensures counts { Counts memory.now result }
 {
     LIVE.get(memory, 0)
 }

@@ -3,7 +3,6 @@ ghost use Rattle.std.specs.Prelude.{◌≡◌, [], ◌∷◌};
 ghost use Rattle.memory.specs.Footprints.{Writes};
 ghost use Rattle.links.specs.Table.{columns};
 ghost use Rattle.links.specs.Entries.{hung, inserted};
-ghost use Rattle.links.specs.Laws.{Inserts};
 
 use crate::entries::take_entry;
 use crate::layout::{AGE, ALL, IN, LIVE, OUT, PAIR};
@@ -40,12 +39,10 @@ fn hang(memory: &mut Memory, link: Link, held: u64)
 }
 
 // Puts a link between slots into the table, behind all others; nothing if there is no entry left.
-#[tactic(auto, using(crate::proofs::Promises::promises), unfolding(crate::specs::Entries::inserted))]
+#[tactic(auto, unfolding(crate::specs::Entries::inserted))]
 #[inline(always)]
 pub fn insert(memory: &mut Memory, link: Link)
     ensures is { memory.new ≡ inserted memory.old link }
-    ensures wrote { Writes columns memory.old memory.new }
-    ensures inserts { Inserts memory.old link memory.new }
 {
     if !is_between(link) {
         return;

@@ -2,7 +2,6 @@ pub mod Columns
 pub mod Meaning
 pub mod Way
 pub mod WayLaws
-pub mod Sides
 pub mod Hunt
 pub mod HuntLaws
 pub mod Settle
