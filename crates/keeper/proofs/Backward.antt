@@ -5,7 +5,7 @@ use Rattle.command.specs.declared.command.Command.TheVariants.{Link as Links}
 use Rattle.order.specs.Lists.{any, has}
 use Rattle.order.specs.Board.{Board, ◌⟶◌, leads, fine}
 use Rattle.command.specs.Commands.{refusal}
-use Rattle.order.specs.Reordering.{goes_round}
+use Rattle.order.specs.Reordering.{link_refusal, goes_round}
 use Rattle.memory.specs.Columns.{cell}
 use Rattle.row.specs.Layout.{tally, ids, chain, slots, places}
 use Rattle.row.specs.Meaning.{row_of, cards}
@@ -158,7 +158,7 @@ module _ (m : List ℕ) (R : Ready m) (o : once (edges m) ≡ true) (i : pending
         ((names m R).way_named s t (way_of m₁ s t y.from y.to) W.cards W.round)))
 
     pub round : said m (Links l) ≡ shown_round m₁ x y → StepKept own 3 Means m r (Links l)
-    unfolding refusal shown_round
+    unfolding refusal link_refusal shown_round
     round se =
         let m₂ = leaves_pending q' 2 in
         let ld : leads r l.to l.from ≡ true = leads_is m R l.from l.to s t A B ∙ T.round in

@@ -6,6 +6,7 @@ use Rattle.command.specs.declared.command.Command.TheVariants.{Goes}
 use Rattle.order.specs.declared.board.Refusal.TheVariants.{Missing}
 use Rattle.order.specs.Lists.{has, filter}
 use Rattle.order.specs.Board.{Board, fine}
+use Rattle.order.specs.Reordering.{link_may_be, link_refusal}
 use Rattle.command.specs.Commands.{refusal, may_be, row_before, links_after}
 use Rattle.memory.specs.Columns.{cell}
 use Rattle.row.specs.Layout.{ids}
@@ -52,7 +53,7 @@ module _ (m : List ℕ) (R : Ready m) (o : once (edges m) ≡ true) (i : pending
   has_row = ap (λ (xs : List ℕ). has xs k) (row_is m R)
 
   missing : has (cards m) k ≡ false → StepKept own 3 Means m r (Goes k)
-  unfolding refusal said
+  unfolding refusal link_refusal said
   missing n =
       let e = (goes_filters m k R.stands).0 n in
       refuses_kept Means m m r (Goes k) Missing i sm (rw (has_row ∙ n)) missing_is_not (rw e refl) (record { ready = R; single = o; idle = i; is = refl })
@@ -95,7 +96,7 @@ module _ (m : List ℕ) (R : Ready m) (o : once (edges m) ≡ true) (i : pending
     same_ids t = (links_same m₁ m' only).same_ids t ∙ G.same_cards t
 
     fine_after : fine (slot_board m') ≡ true
-    unfolding refusal may_be row_before links_after
+    unfolding refusal link_refusal may_be link_may_be row_before links_after
     fine_after =
         let x = slot_board m in
         let f = stays x (Goes s) (filter (λ j. not (eqb j s)) (row_of m)) R.fine_so (rw (has_slot m R.stands s G.was_used)) (same_itself _) (goes_keeps x R.fine_so s) in
@@ -125,7 +126,7 @@ module _ (m : List ℕ) (R : Ready m) (o : once (edges m) ≡ true) (i : pending
     }
 
     goes_out : StepKept own 3 Means m r (Goes k)
-    unfolding refusal said
+    unfolding refusal link_refusal said
     goes_out = goes_kept own 3 Means m r m' (fine_cards m R) k (rw (has_row ∙ h)) (run_done m m' (Goes k) i sm (rw law.1 refl)) means
 
   pub goes_means : StepKept own 3 Means m r (Goes k)

@@ -8,7 +8,7 @@ use Rattle.order.specs.declared.board.Refusal.TheVariants.{Missing, Exists, Cycl
 use Rattle.order.specs.Lists.{any, has, distinct}
 use Rattle.order.specs.Board.{Board, ◌⟶◌, linked, leads, fine}
 use Rattle.command.specs.Commands.{refusal, may_be}
-use Rattle.order.specs.Reordering.{with_link, backward, goes_round, follows, last_of}
+use Rattle.order.specs.Reordering.{link_may_be, link_refusal, with_link, backward, goes_round, follows, last_of}
 use Rattle.memory.specs.Columns.{cell}
 use Rattle.row.specs.Layout.{ids, slots, places}
 use Rattle.row.specs.Meaning.{used, row_of, cards, Stands}
@@ -63,7 +63,7 @@ module _ (m : List ℕ) (R : Ready m) (o : once (edges m) ≡ true) (i : pending
   same = record { ready = R; single = o; idle = i; is = refl }
 
   no_card : slots_found m l ≡ None → (has r.row l.from && has r.row l.to) ≡ false → StepKept own 3 Means m r (Links l)
-  unfolding refusal said linking
+  unfolding refusal link_refusal said linking
   no_card e n = refuses_kept Means m m r (Links l) Missing i sm (rw n) missing_is_not (rw e refl) same
 
   module _ (s t : ℕ) (A : Seated m l.from s) (B : Seated m l.to t) (ha : has (cards m) l.from ≡ true) (hb : has (cards m) l.to ≡ true) where
@@ -80,7 +80,7 @@ module _ (m : List ℕ) (R : Ready m) (o : once (edges m) ≡ true) (i : pending
     found_law = (finds m x R.tabled (used_below m R.stands s A.in_use)).0
 
     there : any (joins x) (edges m) ≡ true → StepKept own 3 Means m r (Links l)
-    unfolding refusal said linking
+    unfolding refusal link_refusal said linking
     there h =
         let e = option_some (entry_found m x) (found_law ∙ h) in
         refuses_kept Means m m r (Links l) Exists i sm (rw (both, linked_here ∙ h)) exists_is_not (rw (slots_there m R l s t A B, e.1) refl) same
@@ -91,7 +91,7 @@ module _ (m : List ℕ) (R : Ready m) (o : once (edges m) ≡ true) (i : pending
 
       -- a card before itself
       itself : s ≡ t → StepKept own 3 Means m r (Links l)
-      unfolding refusal said linking goes_round follows last_of distinct any
+      unfolding refusal link_refusal said linking goes_round follows last_of distinct any
       itself e =
           let k : l.from ≡ l.to = sym A.card ∙ ap (cell m ids) e ∙ B.card in
           let m₁ = leaves_pending m 2 in
@@ -124,7 +124,7 @@ module _ (m : List ℕ) (R : Ready m) (o : once (edges m) ≡ true) (i : pending
         ]
 
         full : 65536 ≤ live m → StepKept own 3 Means m r (Links l)
-        unfolding refusal said put_in
+        unfolding refusal link_refusal said put_in
         full h =
             let c = (counts m R.tabled).0 in
             let c₁ = (names m R).length_links_named in
@@ -153,7 +153,7 @@ module _ (m : List ℕ) (R : Ready m) (o : once (edges m) ≡ true) (i : pending
           }
 
           fine_after : fine (slot_board m') ≡ true
-          unfolding may_be
+          unfolding may_be link_may_be
           fine_after =
               let b = slot_board m in
               let bw : backward b s t ≡ false = sym (backward_is m R l.from l.to s t A B) ∙ forward in
@@ -182,7 +182,7 @@ module _ (m : List ℕ) (R : Ready m) (o : once (edges m) ≡ true) (i : pending
           }
 
         made : live m < 65536 → StepKept own 3 Means m r (Links l)
-        unfolding refusal said put_in
+        unfolding refusal link_refusal said put_in
         made h =
             let c = (counts m R.tabled).0 in
             let c₁ = (names m R).length_links_named in

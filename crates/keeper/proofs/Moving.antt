@@ -7,7 +7,7 @@ use Rattle.order.specs.declared.board.Refusal.TheVariants.{Full}
 use Rattle.order.specs.Lists.{any, has, place}
 use Rattle.order.specs.Board.{Board, ◌⟶◌, linked, leads, fine}
 use Rattle.command.specs.Commands.{refusal}
-use Rattle.order.specs.Reordering.{with_link, backward}
+use Rattle.order.specs.Reordering.{link_must_be, link_refusal, with_link, backward}
 use Rattle.memory.specs.Columns.{cell}
 use Rattle.row.specs.Layout.{ids, slots, places, count}
 use Rattle.row.specs.Meaning.{used, row_of, cards, Stands}
@@ -83,7 +83,7 @@ module _ (m : List ℕ) (R : Ready m) (o : once (edges m) ≡ true) (i : pending
   links_counted = (names m R).length_links_named ∙ sym (counts m R.tabled).0
 
   pub full : said m (Links l) ≡ moved m₁ x low high → 65536 ≤ live m → StepKept own 3 Means m r (Links l)
-  unfolding refusal moved
+  unfolding refusal link_refusal moved
   full se h =
       let K = P.kept in
       let q = forgotten m₁ in
@@ -98,7 +98,7 @@ module _ (m : List ℕ) (R : Ready m) (o : once (edges m) ≡ true) (i : pending
       })
 
   pub allowed : live m < 65536 → refusal r (Links l) ≡ None
-  unfolding refusal
+  unfolding refusal link_refusal
   allowed h = rw (all_in, not_linked, no_round, lt-leb 65536 (length r.links) (omega (arith, links_counted)))
 
   module _ (h : live m < 67584) where
@@ -157,7 +157,7 @@ module _ (m : List ℕ) (R : Ready m) (o : once (edges m) ≡ true) (i : pending
     goes_back = backward_is m R l.from l.to s t A B ∙ backward_places m R l.from l.to s t A B ∙ lt-ltb low high w
 
     fine_after : fine (slot_board m₃) ≡ true
-    unfolding must_be
+    unfolding must_be link_must_be
     fine_after =
         let b = slot_board m in
         let bk : backward b s t ≡ true = sym (backward_is m R l.from l.to s t A B) ∙ goes_back in

@@ -14,7 +14,7 @@ use Rattle.order.proofs.Little.{link_has}
 module _ (r : Board) (f : fine r ≡ true) (a b : ℕ) where
   pub open_stays : (has r.row a ≡ true) × (has r.row b ≡ true) → (row : List ℕ) → may_be r (Links (a ⟶ b)) row ≡ true → keeps row (with_link r a b) ≡ true →
       fine (record { row = row; links = with_link r a b }) ≡ true
-  unfolding every
+  unfolding every may_be
   open_stays t row m ke =
       let g = fine_parts r f in
       let p = link_has r g a b row m in

@@ -7,7 +7,7 @@ use Rattle.order.specs.declared.board.Refusal.{Refusal}
 use Rattle.order.specs.Lists.{every, distinct}
 use Rattle.order.specs.Board.{Board, keeps, fine}
 use Rattle.command.specs.Commands.{refusal, after, links_after, must_be}
-use Rattle.order.specs.Reordering.{backward}
+use Rattle.order.specs.Reordering.{link_must_be, backward}
 use Rattle.order.proofs.Filters.{same_is}
 use Rattle.order.proofs.Only.{only_one}
 use Rattle.keeper.specs.Engine.{Engine, Ran, run_of}
@@ -17,7 +17,7 @@ use Rattle.keeper.proofs.Simulation.{done_fine}
 
 must_be_one : (r : Board) (c : Command) (row row₁ : List ℕ) → fine r ≡ true → refusal r c ≡ None → must_be r c row ≡ true →
     keeps row (links_after r c) ≡ true → must_be r c row₁ ≡ true → keeps row₁ (links_after r c) ≡ true → row ≡ row₁
-unfolding must_be links_after
+unfolding refusal must_be link_must_be links_after
 must_be_one r (Comes j) row row₁ f z h k h₁ k₁ = same_is row _ h ∙ sym (same_is row₁ _ h₁)
 must_be_one r (Goes j) row row₁ f z h k h₁ k₁ = same_is row _ h ∙ sym (same_is row₁ _ h₁)
 must_be_one r (Links l) row row₁ f z h k h₁ k₁ = elim (cases_Bool (backward r l.from l.to)) [

@@ -27,6 +27,7 @@ module _ (r : Board) (f : fine r ≡ true) where
       (fine_parts r f).kept
 
   pub forward_keeps : (a b : ℕ) → refusal r (Links (a ⟶ b)) ≡ None → backward r a b ≡ false → keeps r.row (with_link r a b) ≡ true
+  unfolding refusal
   forward_keeps a b re n =
       let p = fine_parts r f in
       let o = open_link r a b re in
