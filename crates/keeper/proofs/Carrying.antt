@@ -8,7 +8,7 @@ use Rattle.memory.specs.declared.column.Column.{Column}
 use Rattle.memory.specs.Columns.{cell, written}
 use Rattle.memory.specs.Footprints.{clear, clear_all, Writes, View, view}
 use Rattle.memory.proofs.Cells.{cell_same}
-use Rattle.memory.proofs.Footprints.{view_same, put}
+use Rattle.memory.proofs.Footprints.{same, view_same, put}
 use Rattle.memory.proofs.Alone.{cells_alone}
 use Rattle.memory.specs.PlaceSetLaws.{CellsAlone}
 use Rattle.row.specs.declared.layout.TheConstants.{IDS}
@@ -21,7 +21,7 @@ use Rattle.search.specs.declared.layout.TheConstants.{FORE, HIND}
 use Rattle.search.specs.Columns.{sets}
 use Rattle.search.specs.Meaning.{slot_board, Ready}
 use Rattle.search.specs.SettleLaws.{Unmarked}
-use Rattle.keeper.specs.declared.layout.TheConstants.{PENDING, MORE_TO}
+use Rattle.keeper.specs.declared.layout.TheConstants.{PENDING, MORE_FROM, MORE_TO}
 use Rattle.keeper.specs.Columns.{columns}
 use Rattle.keeper.specs.Answers.{pending, leaves_pending}
 use Rattle.keeper.specs.Meaning.{card_board, Means}
@@ -67,7 +67,7 @@ module _ (fs : List Column) (m m' : List ℕ) (w : Writes fs m m') where
     same_row = depends fs m m' r w
 
     pub same_ids : cell m' IDS ≡ cell m IDS
-    same_ids = ap (λ (v : View). v.at IDS) (view_same fs m m' row_columns r w)
+    same_ids = ap (λ (v : View). v.at IDS) (view_same fs row_columns r m m' w)
 
     -- beside row and table
     module _ (l : clear_all fs link_columns ≡ true) where
@@ -118,3 +118,7 @@ settles m m' R o l N =
       idle = is_pending m' (let e = N.as_long in omega arith) 0;
       is = sym (same_board columns m n Z refl refl);
     }
+
+pub noted_more : (m : List ℕ) (i j : ℕ) → i < 2 ^ 64 → j < 2 ^ 64 → Noted m (written (written (leaves_pending m 3) MORE_FROM 0 i) MORE_TO 0 j)
+noted_more m i j k l =
+    put columns m _ MORE_TO 0 j refl (λ _. l) (put columns m _ MORE_FROM 0 i refl (λ _. k) (noted m m 3 (omega arith) (same columns m)))

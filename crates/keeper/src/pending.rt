@@ -36,7 +36,7 @@ impl Pending {
     }
 
     // Notes it in the memory.
-    #[tactic(auto, using(memory::proofs::Footprints::footprints))]
+    #[tactic(auto, using(memory::proofs::Footprints::footprints, crate::proofs::Carrying::noted_more))]
     #[inline(always)]
     pub fn note(self, memory: &mut Memory)
         ensures is { memory.new ≡ noted memory.old self }

@@ -65,7 +65,7 @@ abbrev pub sought : ℕ → List Pointer → Option ℕ
 sought n xs = option_map (λ q. q.held) (find (λ q. q.label == n) xs)
 
 unfoldable pub found : List ℕ → Link → Option ℕ
-found m x = None
+found m x = cond (is_between x) (sought (pair x) (walked ENTRIES PAIR m (bucket x))) None
 
 pub record Outcome : Type 0 where
   pub answer : Result ℕ Refusal

@@ -8,9 +8,11 @@ mod layout;
 mod lookup;
 mod pairs;
 mod removal;
+mod theory;
 
 pub use entries::len;
 pub use insertion::insert;
 pub use layout::{AGE, ALL, ENTRIES, FREE, IN, LIVE, OUT, PAIR, USED};
 pub use lookup::find;
 pub use removal::{remove, remove_all};
+pub use theory::{begins_stands, gives_stands, stays_once_stands};

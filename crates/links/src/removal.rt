@@ -3,6 +3,7 @@ ghost use Rattle.std.specs.Prelude.{◌≡◌, [], ◌∷◌};
 ghost use Rattle.memory.specs.Footprints.{Writes};
 ghost use Rattle.links.specs.Table.{columns};
 ghost use Rattle.links.specs.Entries.{removed, dropped, emptied, removed_all};
+ghost use Rattle.links.specs.Laws.{Removes, RemovesAll};
 
 use crate::entries::give_back;
 use crate::layout::{ENTRIES, IN, OUT};
@@ -12,11 +13,13 @@ use memory::Memory;
 use order::{CARDS, Link, Refusal};
 
 // Takes a link out of the table; says the entry that it had.
-#[tactic(auto, unfolding(crate::specs::Entries::removed))]
+#[tactic(auto, using(crate::proofs::Promises::removing), unfolding(crate::specs::Entries::removed))]
 #[inline(always)]
 pub fn remove(memory: &mut Memory, link: Link) -> Result<u64, Refusal>
     ensures is { result ≡ (removed memory.old link).answer }
     ensures after { memory.new ≡ (removed memory.old link).memory }
+    ensures wrote { Writes columns memory.old memory.new }
+    ensures removes { Removes memory.old link result memory.new }
 {
     let Some(entry) = find(memory, link) else {
         return Err(Refusal::Missing);
@@ -53,9 +56,11 @@ fn empty(memory: &mut Memory, along: ChainTable, across: ChainTable, slot: u64)
 }
 
 // Takes all links out of a slot and into it out of the table.
-#[tactic(auto, unfolding(crate::specs::Entries::removed_all))]
+#[tactic(auto, using(crate::proofs::Promises::removing_all), unfolding(crate::specs::Entries::removed_all))]
 pub fn remove_all(memory: &mut Memory, slot: u64)
     ensures is { memory.new ≡ removed_all memory.old slot }
+    ensures wrote { Writes columns memory.old memory.new }
+    ensures removes { RemovesAll memory.old slot memory.new }
 {
     if slot >= CARDS {
         return;

@@ -8,3 +8,13 @@ pub mod Halving
 pub mod Steps
 pub mod Seatings
 pub mod Chaining
+pub mod Freeing
+pub mod Hashing
+pub mod Seeking
+pub mod Framing
+pub mod Sitting
+pub mod Rows
+pub mod Packs
+pub mod Present
+pub mod Again
+pub mod Coming

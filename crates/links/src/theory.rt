@@ -1,0 +1,26 @@
+// What is proved of the table: a function for each statement that is about no single one of the operations, whose contract it is.
+ghost use Rattle.links.specs.Laws.{Begins, StaysOnce, Gives};
+
+// A memory of zeros has no links.
+#[tactic(auto, using(crate::proofs::Beginning::begins))]
+pub fn begins_stands() -> u8
+    ensures { Begins }
+{
+    0
+}
+
+// Links of which none is there twice stay so.
+#[tactic(auto, using(crate::proofs::Onces::stays_once))]
+pub fn stays_once_stands() -> u8
+    ensures { StaysOnce }
+{
+    0
+}
+
+// What the chains of a slot give, and the chain of all links.
+#[tactic(auto, using(crate::proofs::Giving::gives))]
+pub fn gives_stands() -> u8
+    ensures { Gives }
+{
+    0
+}
