@@ -31,7 +31,7 @@ freed_marked : (n : List ℕ) (t : ℕ) → Summed n fore → cell n places t < 
     × ((x : ℕ) → marked (freed n t) fore x ≡ ((eqb x (cell n places t) && eqb (cell n awaits t) 0) || marked n fore x))
 unfolding freed
 freed_marked n t s l =
-    let a = adding n fore (cell n places t) s l in
+    let a = adding n fore (cell n places t) s (omega (arith, l)) in
     elim (cases_Bool (eqb (cell n awaits t) 0)) [
       | inl e ↦ rw e (a.0, λ x. a.2 x ∙ (grind arith))
       | inr e ↦ rw e (s, λ x. grind arith)
