@@ -4,4 +4,3 @@ pub mod Reordering
 pub mod Theory
 pub mod Renaming
 pub mod Kept
-pub mod Outcomes
