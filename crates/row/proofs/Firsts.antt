@@ -1,10 +1,11 @@
 -- The first number from one on that passes a test.
 use Rattle.std.proofs.Common.{◌≡◌, ℕ, zero, suc, ◌+◌, ◌-◌, ◌<◌, ◌≤◌, min, Bool, true, false, List, sym, refl, ap, ◌∙◌, inl, inr, arith}
-use Rattle.std.proofs.lemmas.Bool.{cases_lt, cases_eq}
+use Rattle.std.proofs.lemmas.Bool.{cases_lt, cases_eq, both_ways}
 use Rattle.row.specs.declared.layout.TheConstants.{SEATS_MOST}
 use Rattle.row.specs.Meaning.{taken}
 use Rattle.row.specs.Telling.{first_from, next_seat}
 use Rattle.row.specs.Laws.{Next}
+use Rattle.row.proofs.Counting.{none_past}
 
 module _ (f : ℕ → Bool) where
   pub first_is : (n p q : ℕ) → p ≤ q → q < p + n → f q ≡ true → ((r : ℕ) → p ≤ r → r < q → f r ≡ false) → first_from f n p ≡ q
@@ -33,3 +34,12 @@ next_is m p q x = elim (cases_lt q SEATS_MOST) [
       let a = x.room in
       sym (first_none (taken m) (SEATS_MOST - p) (min p SEATS_MOST) (λ r b c. x.first r (omega arith) (omega arith)) ∙ omega arith)
 ]
+
+-- a taken seat is the next one from itself on
+pub next_here : (m : List ℕ) (p : ℕ) → taken m p ≡ true → Next (taken m) p p
+next_here m p h = record {
+  room = elim (cases_lt p SEATS_MOST) [ inl l ↦ omega arith | inr l ↦ absurd (both_ways (taken m p) (none_past m p l) h) ];
+  here = λ _. h;
+  first = λ r l u. absurd (omega arith);
+  from = λ _. omega arith;
+}

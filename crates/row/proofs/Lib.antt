@@ -1,3 +1,8 @@
-pub mod Steps
+pub mod Listing
+pub mod Along
+pub mod Counting
 pub mod Turning
+pub mod Words
 pub mod Firsts
+pub mod Halving
+pub mod Steps
