@@ -1,3 +1,0 @@
-pub mod Places
-pub mod Filters
-pub mod Tabulated

@@ -1,4 +1,0 @@
-pub mod Lists
-pub mod Board
-pub mod Renaming
-pub mod Outcomes

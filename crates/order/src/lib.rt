@@ -1,6 +1,0 @@
-// Boards of cards and links (a stand-in).
-#![tactic(auto)]
-
-mod board;
-
-pub use board::{CARDS, LINKS, Link, Refusal};
