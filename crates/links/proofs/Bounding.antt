@@ -1,11 +1,11 @@
 -- What each operation writes: only to the table, and only numbers below 2 ^ 64.
 use Rattle.std.proofs.Common.{◌≡◌, ℕ, zero, suc, ◌+◌, ◌-◌, ◌%◌, ◌<◌, min, true, ltb, List, Some, None, Ok, Option, arith}
 use Rattle.std.proofs.lemmas.Bool.{ltb-true}
-use Rattle.row.specs.declared.board.Link.{Link}
-use Rattle.row.specs.declared.board.Refusal.TheVariants.{Missing}
-use Rattle.row.specs.Columns.{wiped, cell, written}
+use Rattle.order.specs.declared.board.Link.{Link}
+use Rattle.order.specs.declared.board.Refusal.TheVariants.{Missing}
+use Rattle.memory.specs.Columns.{wiped, cell, written}
 use Rattle.row.specs.Layout.{tally}
-use Rattle.row.specs.Lookup.{given}
+use Rattle.memory.specs.Options.{given}
 use Rattle.row.specs.Moves.{refused}
 use Rattle.links.specs.declared.chain.Chain.{Chain}
 use Rattle.links.specs.declared.chain.Chain.TheVariants.{Out, In, Pair}

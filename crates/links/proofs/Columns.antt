@@ -1,9 +1,9 @@
 -- The columns of the table are apart, and long enough.
 use Rattle.std.proofs.Common.{◌≡◌, ◌+◌, ◌<◌, ◌≤◌, true, ◌⊎◌, refl, inl, inr, arith}
 use Rattle.std.proofs.lemmas.Bool.Decides.{nat_tests}
-use Rattle.row.specs.declared.board.Link.{Link}
-use Rattle.row.specs.declared.column.Column.{Column}
-use Rattle.row.specs.Columns.{apart}
+use Rattle.order.specs.declared.board.Link.{Link}
+use Rattle.memory.specs.declared.column.Column.{Column}
+use Rattle.memory.specs.Columns.{apart}
 use Rattle.row.specs.Layout.{tally}
 use Rattle.links.specs.declared.chain.Chain.{Chain}
 use Rattle.links.specs.declared.chain.Chain.TheVariants.{Out, In, Pair}

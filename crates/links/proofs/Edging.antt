@@ -1,9 +1,9 @@
 -- The links of the living entries, as functions: nothing of a memory.
 use Rattle.std.proofs.Common.{◌≡◌, ℕ, zero, suc, ◌<◌, Bool, true, false, cond, not, ◌&&◌, ◌||◌, List, [], ◌∷◌, ◌++◌, is_some, refl, ap, inl, inr, arith}
 use Rattle.std.proofs.lemmas.Bool.{cases_Bool}
-use Rattle.row.specs.declared.board.Link.{Link}
-use Rattle.row.specs.Lists.{any, filter}
-use Rattle.row.proofs.Filters.{filter_append}
+use Rattle.order.specs.declared.board.Link.{Link}
+use Rattle.order.specs.Lists.{any, filter}
+use Rattle.order.proofs.Filters.{filter_append}
 use Rattle.links.specs.Skips.{newest}
 use Rattle.links.specs.Meaning.{edges_of}
 

@@ -1,12 +1,12 @@
 -- What the operations write: only to the table, and only numbers below 2 ^ 64.
 use Rattle.std.proofs.Common.{◌≡◌, ℕ, zero, suc, ◌+◌, ◌<◌, Bool, true, false, cond, List, [], ◌∷◌, get_or, set, Some, None, Option, refl, ◌∙◌, arith}
 use Rattle.std.proofs.lemmas.Bool.Decides.{nat_tests}
-use Rattle.row.specs.declared.column.Column.{Column}
-use Rattle.row.specs.Lists.{every}
-use Rattle.row.specs.Columns.{cell, written, apart}
+use Rattle.memory.specs.declared.column.Column.{Column}
+use Rattle.order.specs.Lists.{every}
+use Rattle.memory.specs.Columns.{cell, written, apart}
 use Rattle.row.specs.Layout.{tally}
-use Rattle.row.specs.Lookup.{given}
-use Rattle.row.proofs.Cells.{length_written, cell_other, cell_apart}
+use Rattle.memory.specs.Options.{given}
+use Rattle.memory.proofs.Cells.{length_written, cell_other, cell_apart}
 use Rattle.links.specs.declared.chain.Chain.{Chain}
 use Rattle.links.specs.Layout.{pointers, froms, tos}
 use Rattle.links.specs.Frames.{Only, aside, words}

@@ -2,12 +2,12 @@
 use Rattle.std.proofs.Common.{◌≡◌, ℕ, zero, suc, ◌-◌, ◌<◌, Bool, true, false, not, ◌&&◌, eqb, ltb, ◌⊎◌, List, [], ◌∷◌, ◌++◌, length, is_some, is_ok, Some, None, Ok, Option, sym, refl, ap, ◌∙◌, inl, inr, arith}
 use Rattle.std.proofs.lemmas.Bool.Decides.{nat_tests}
 use Rattle.std.proofs.lemmas.Bool.{cases_Bool, cases_lt, lt-ltb, le-ltb, true≢false}
-use Rattle.row.specs.declared.board.Link.{Link}
-use Rattle.row.specs.declared.board.Refusal.TheVariants.{Missing}
-use Rattle.row.specs.Lists.{every, any, filter}
-use Rattle.row.specs.Board.{◌⟶◌}
+use Rattle.order.specs.declared.board.Link.{Link}
+use Rattle.order.specs.declared.board.Refusal.TheVariants.{Missing}
+use Rattle.order.specs.Lists.{every, any, filter}
+use Rattle.order.specs.Board.{◌⟶◌}
 use Rattle.row.specs.Moves.{Outcome, refused}
-use Rattle.row.proofs.Filters.{every_append}
+use Rattle.order.proofs.Filters.{every_append}
 use Rattle.links.specs.declared.chain.Chain.TheVariants.{Out, In}
 use Rattle.links.specs.Layout.{live, end}
 use Rattle.links.specs.Chains.{dead}

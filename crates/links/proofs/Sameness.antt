@@ -1,11 +1,11 @@
 -- What a memory means depends on its table alone.
 use Rattle.std.proofs.Common.{◌≡◌, ℕ, ◌≤◌, true, not, ltb, List, length, sym, refl, ap, ◌∙◌, arith}
 use Rattle.std.proofs.lemmas.Bool.{and_parts}
-use Rattle.row.specs.declared.board.Link.{Link}
-use Rattle.row.specs.declared.column.Column.{Column}
-use Rattle.row.specs.Columns.{cell, written, apart}
+use Rattle.order.specs.declared.board.Link.{Link}
+use Rattle.memory.specs.declared.column.Column.{Column}
+use Rattle.memory.specs.Columns.{cell, written, apart}
 use Rattle.row.specs.Layout.{tally}
-use Rattle.row.proofs.Cells.{length_written, cell_other, cell_apart}
+use Rattle.memory.proofs.Cells.{length_written, cell_other, cell_apart}
 use Rattle.links.specs.declared.chain.Chain.{Chain}
 use Rattle.links.specs.declared.chain.Chain.TheVariants.{Out, In, Pair}
 use Rattle.links.specs.Layout.{end, pointers, heads, froms, tos}

@@ -4,11 +4,11 @@ use Rattle.std.proofs.lemmas.Bool.Decides.{nat_tests}
 use Rattle.std.proofs.lemmas.Bool.{cases_Bool, cases_eq, and_parts, not-true}
 use Rattle.std.specs.List.{find}
 use Rattle.std.specs.Option.{option_map}
-use Rattle.row.specs.declared.board.Link.{Link}
+use Rattle.order.specs.declared.board.Link.{Link}
 use Rattle.row.specs.declared.chains.Entry.{Entry}
-use Rattle.row.specs.Board.{◌⟶◌}
-use Rattle.row.specs.Lists.{any}
-use Rattle.row.specs.Columns.{cell}
+use Rattle.order.specs.Board.{◌⟶◌}
+use Rattle.order.specs.Lists.{any}
+use Rattle.memory.specs.Columns.{cell}
 use Rattle.row.specs.Chains.{held}
 use Rattle.row.specs.Walks.{walked}
 use Rattle.row.proofs.Walking.{find_given}

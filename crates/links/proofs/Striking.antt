@@ -2,10 +2,10 @@
 use Rattle.std.proofs.Common.{◌≡◌, ℕ, zero, suc, ◌+◌, ◌-◌, ◌<◌, ◌≤◌, Bool, false, not, ◌&&◌, ◌||◌, eqb, ltb, List, Some, None, sym, refl, ap, ◌∙◌, inl, inr, arith}
 use Rattle.std.proofs.lemmas.Bool.Decides.{nat_tests}
 use Rattle.std.proofs.lemmas.Bool.{cases_Bool, cases_eq, cases_lt}
-use Rattle.row.specs.declared.board.Link.{Link}
-use Rattle.row.specs.Lists.{filter}
-use Rattle.row.specs.Columns.{cell, written}
-use Rattle.row.proofs.Cells.{cell_same, cell_other}
+use Rattle.order.specs.declared.board.Link.{Link}
+use Rattle.order.specs.Lists.{filter}
+use Rattle.memory.specs.Columns.{cell, written}
+use Rattle.memory.proofs.Cells.{cell_same, cell_other}
 use Rattle.links.specs.declared.chain.Chain.{Chain}
 use Rattle.links.specs.declared.chain.Chain.TheVariants.{Out, In}
 use Rattle.links.specs.Layout.{end, pointers, heads}

@@ -3,9 +3,9 @@ use Rattle.std.proofs.Common.{◌≡◌, ℕ, zero, suc, ◌+◌, ◌<◌, ◌�
 use mathlib.Core.List.{reverse-append, reverse-cons}
 use Rattle.std.proofs.lemmas.Bool.Decides.{nat_tests}
 use Rattle.std.proofs.lemmas.Bool.{cases_Bool, cases_eq, and_parts, true≢false}
-use Rattle.row.specs.declared.board.Link.{Link}
-use Rattle.row.specs.Lists.{any, filter}
-use Rattle.row.proofs.Filters.{filter_append}
+use Rattle.order.specs.declared.board.Link.{Link}
+use Rattle.order.specs.Lists.{any, filter}
+use Rattle.order.proofs.Filters.{filter_append}
 use Rattle.links.specs.Entries.{joins}
 use Rattle.links.specs.Skips.{put, living, newest}
 use Rattle.links.specs.Meaning.{edges_of, once}

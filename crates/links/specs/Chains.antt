@@ -7,9 +7,9 @@
 --   stepped m c p    the memory after it: a dead entry is out of its chain
 --   pushed m c k l   the memory after the entry l was put in front of the chain of k
 use Rattle.std.specs.Prelude.{ℕ, ◌+◌, ◌<◌, Bool, cond, not, List, Some, None, Option, nat_lt}
-use Rattle.row.specs.Columns.{cell, written}
+use Rattle.memory.specs.Columns.{cell, written}
 use Rattle.row.specs.Chains.{held}
-use Rattle.row.specs.Lookup.{given}
+use Rattle.memory.specs.Options.{given}
 use Rattle.links.specs.declared.chain.Chain.{Chain}
 use Rattle.links.specs.declared.chain.Meeting.{Meeting}
 use Rattle.links.specs.declared.chain.Meeting.TheVariants.{End, Dead, Living}

@@ -6,9 +6,9 @@
 --   Only m m'     the second memory is the first, but for the table: what is aside, and the other single numbers, are as they were
 --   word v        v is below 2 ^ 64; words m: each number of the memory is
 use Rattle.std.specs.Prelude.{◌≡◌, ℕ, Bool, true, ◌&&◌, List, length, ◌≢◌, nat_lt}
-use Rattle.row.specs.declared.column.Column.{Column}
-use Rattle.row.specs.Lists.{every}
-use Rattle.row.specs.Columns.{cell, apart}
+use Rattle.memory.specs.declared.column.Column.{Column}
+use Rattle.order.specs.Lists.{every}
+use Rattle.memory.specs.Columns.{cell, apart}
 use Rattle.row.specs.Layout.{tally}
 use Rattle.links.specs.declared.chain.Chain.{Chain}
 use Rattle.links.specs.declared.chain.Chain.TheVariants.{Out, In, Pair}

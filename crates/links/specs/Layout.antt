@@ -5,8 +5,8 @@
 --   heads c         how many of them are heads
 --   froms, tos      by entry: the slots that a link comes out of and goes into; 8,192 where it is dead
 use Rattle.std.specs.Prelude.{ℕ, List}
-use Rattle.row.specs.declared.column.Column.{Column}
-use Rattle.row.specs.Columns.{cell}
+use Rattle.memory.specs.declared.column.Column.{Column}
+use Rattle.memory.specs.Columns.{cell}
 use Rattle.row.specs.Layout.{tally}
 use Rattle.links.specs.declared.chain.Chain.{Chain}
 use Rattle.links.specs.declared.chain.Chain.TheVariants.{Out, In, Pair}

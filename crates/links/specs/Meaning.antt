@@ -9,9 +9,9 @@
 --   Tabled m            the table is sound, for some such links
 --   At m was c p k e    the pointer p of a family of chains points from the entry e down the chain of the key k
 use Rattle.std.specs.Prelude.{◌≡◌, ℕ, zero, suc, ◌<◌, ◌≤◌, Bool, true, false, cond, not, ◌&&◌, List, [], ◌∷◌, ◌++◌, length}
-use Rattle.row.specs.declared.board.Link.{Link}
-use Rattle.row.specs.Lists.{any}
-use Rattle.row.specs.Columns.{cell}
+use Rattle.order.specs.declared.board.Link.{Link}
+use Rattle.order.specs.Lists.{any}
+use Rattle.memory.specs.Columns.{cell}
 use Rattle.links.specs.declared.chain.Chain.{Chain}
 use Rattle.links.specs.Layout.{live, end, pointers, heads, tos}
 use Rattle.links.specs.Chains.{dead}

@@ -6,10 +6,10 @@
 --   cleared m c s     all of a slot's chain marked dead, and the chain emptied
 --   removed_all m s   all links out of a slot and into it taken out
 use Rattle.std.specs.Prelude.{ℕ, zero, suc, ◌+◌, ◌-◌, cond, List, Ok, nat_lt}
-use Rattle.row.specs.declared.board.Link.{Link}
-use Rattle.row.specs.declared.board.Refusal.TheVariants.{Missing}
-use Rattle.row.specs.Columns.{written}
-use Rattle.row.specs.Lookup.{given}
+use Rattle.order.specs.declared.board.Link.{Link}
+use Rattle.order.specs.declared.board.Refusal.TheVariants.{Missing}
+use Rattle.memory.specs.Columns.{written}
+use Rattle.memory.specs.Options.{given}
 use Rattle.row.specs.Moves.{Outcome, refused}
 use Rattle.links.specs.declared.chain.Chain.{Chain}
 use Rattle.links.specs.declared.chain.Chain.TheVariants.{Out, In}

@@ -3,8 +3,8 @@
 --   Ended, Passed, Came   what is so if it meets the chain's end, a dead entry, or a living one
 --   Told m was c p k e    what is so, by what is met. By each step that does not end the walk, the number that the walk's pointer holds falls
 use Rattle.std.specs.Prelude.{◌≡◌, ℕ, ◌+◌, ◌<◌, false, List, [], ◌∷◌}
-use Rattle.row.specs.declared.board.Link.{Link}
-use Rattle.row.specs.Columns.{cell}
+use Rattle.order.specs.declared.board.Link.{Link}
+use Rattle.memory.specs.Columns.{cell}
 use Rattle.links.specs.declared.chain.Chain.{Chain}
 use Rattle.links.specs.declared.chain.Meeting.{Meeting}
 use Rattle.links.specs.declared.chain.Meeting.TheVariants.{End, Dead, Living}

@@ -5,11 +5,13 @@ ghost use Rattle.links.specs.Building.{appended, emptied, carried, rebuilt, room
 use crate::entries::{from_of, len, to_of, used};
 use crate::finding::bucket_of;
 use crate::layout::{END, ENTRIES, FROM, IN, LIVE, OUT, PAIR, TO};
-use row::{CARDS, Link, TALLY};
+use memory::Memory;
+use order::{CARDS, Link};
+use row::TALLY;
 
 // Puts a link at the table's end, and in front of its chains; nothing if the table is full.
 #[tactic(auto, unfolding(crate::specs::Building::appended, crate::specs::Building::added, crate::specs::Building::hung, crate::specs::Building::set_down, crate::specs::Chains::pushed))]
-fn append(memory: &mut [u64], link: Link)
+fn append(memory: &mut Memory, link: Link)
     ensures { memory.new ≡ appended memory.old link }
 {
     let entry = used(memory);
@@ -28,7 +30,7 @@ fn append(memory: &mut [u64], link: Link)
 
 // Leaves no link; the entries still hold what they held.
 #[tactic(auto, unfolding(crate::specs::Building::emptied, crate::specs::Building::blanked))]
-fn empty(memory: &mut [u64])
+fn empty(memory: &mut Memory)
     ensures { memory.new ≡ emptied memory.old }
 {
     OUT.empty(memory);
@@ -40,7 +42,7 @@ fn empty(memory: &mut [u64])
 
 // Puts what an entry holds at the table's end, if it lives.
 #[tactic(auto, unfolding(crate::specs::Building::carried))]
-fn carry(memory: &mut [u64], entry: u64)
+fn carry(memory: &mut Memory, entry: u64)
     ensures { memory.new ≡ carried memory.old entry }
 {
     let from = from_of(memory, entry);
@@ -52,7 +54,7 @@ fn carry(memory: &mut [u64], entry: u64)
 
 // Builds the table again of its living links, in their order.
 #[tactic(auto, using(crate::proofs::Turns::refills), unfolding(crate::specs::Building::rebuilt))]
-pub fn rebuild(memory: &mut [u64])
+pub fn rebuild(memory: &mut Memory)
     ensures { memory.new ≡ rebuilt memory.old }
 {
     let end = used(memory).min(ENTRIES);
@@ -64,7 +66,7 @@ pub fn rebuild(memory: &mut [u64])
 
 // Builds the table again, if it is full.
 #[tactic(auto, unfolding(crate::specs::Building::roomy))]
-fn make_room(memory: &mut [u64])
+fn make_room(memory: &mut Memory)
     ensures { memory.new ≡ roomy memory.old }
 {
     if used(memory) >= ENTRIES {
@@ -73,7 +75,7 @@ fn make_room(memory: &mut [u64])
 }
 
 // Puts a link into the table, behind all others.
-pub fn insert(memory: &mut [u64], link: Link)
+pub fn insert(memory: &mut Memory, link: Link)
     ensures { memory.new ≡ inserted memory.old link }
 {
     make_room(memory);

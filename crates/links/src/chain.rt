@@ -5,7 +5,9 @@ ghost use Rattle.links.specs.Layout.{pointers, heads};
 ghost use Rattle.links.specs.Chains.{met, stepped};
 
 use crate::layout::{FROM, IN, OUT, PAIR};
-use row::{CARDS, Entry, Family};
+use memory::Memory;
+use order::CARDS;
+use row::{Entry, Family};
 
 // A family of chains: the links out of each slot, those into each slot, and those of each bucket of pairs.
 #[derive(Clone, Copy, Debug, PartialEq, Eq)]
@@ -41,7 +43,7 @@ pub enum Meeting {
 // One step of a walk that stands at a pointer. A walk through a chain begins at its head, which is the pointer with the number of its key: the slot.
 // Behind a dead entry it goes on where it stands.
 #[tactic(auto, unfolding(crate::specs::Chains::followed, crate::specs::Chains::met, crate::specs::Chains::stepped))]
-pub fn take_step(memory: &mut [u64], chain: Chain, pointer: u64) -> Meeting
+pub fn take_step(memory: &mut Memory, chain: Chain, pointer: u64) -> Meeting
     ensures is { result ≡ met memory.old chain pointer }
     ensures after { memory.new ≡ stepped memory.old chain pointer }
 {

@@ -5,7 +5,9 @@ ghost use Rattle.links.specs.Entries.{pair_bucket, link_at, found};
 
 use crate::entries::{from_of, to_of};
 use crate::layout::{BUCKET, PAIR};
-use row::{CARDS, Link, spread};
+use memory::Memory;
+use order::{CARDS, Link};
+use row::spread;
 
 // The bucket of a link.
 #[tactic(auto, unfolding(crate::specs::Entries::pair_bucket))]
@@ -16,7 +18,7 @@ pub(crate) fn bucket_of(link: Link) -> u64
 }
 
 // The link that an entry holds.
-pub(crate) fn link_at(memory: &[u64], entry: u64) -> Link
+pub(crate) fn link_at(memory: &Memory, entry: u64) -> Link
     ensures { result ≡ link_at memory.now entry }
 {
     Link {
@@ -26,7 +28,7 @@ pub(crate) fn link_at(memory: &[u64], entry: u64) -> Link
 }
 
 // The entry of a link between slots, if it's there.
-pub fn find(memory: &[u64], link: Link) -> Option<u64>
+pub fn find(memory: &Memory, link: Link) -> Option<u64>
     ensures is { result ≡ found memory.now link }
     ensures below { Below result }
 {

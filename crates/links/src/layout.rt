@@ -1,5 +1,7 @@
 // Where the columns of this crate lie in the lent memory, behind those of `row`. They begin at different offsets within a page.
-use row::{CARDS, Column, Family};
+use memory::Column;
+use order::CARDS;
+use row::Family;
 
 // How many entries the table has: more than there may be living links, so that building it again makes room for some.
 pub const ENTRIES: u64 = 67584;

@@ -7,11 +7,12 @@ use crate::chain::Chain;
 use crate::entries::{bury, len, used};
 use crate::finding::find;
 use crate::layout::{ENTRIES, SLACK};
-use row::{Link, Refusal};
+use memory::Memory;
+use order::{Link, Refusal};
 
 // Builds the table again, if too many of it are dead.
 #[tactic(auto, unfolding(crate::specs::Removing::compacted))]
-fn compact(memory: &mut [u64])
+fn compact(memory: &mut Memory)
     ensures { memory.new ≡ compacted memory.old }
 {
     let live = len(memory);
@@ -23,7 +24,7 @@ fn compact(memory: &mut [u64])
 
 // Takes a link between slots out of the table; says the entry that it had.
 #[tactic(auto, unfolding(crate::specs::Removing::removed))]
-pub fn remove(memory: &mut [u64], link: Link) -> Result<u64, Refusal>
+pub fn remove(memory: &mut Memory, link: Link) -> Result<u64, Refusal>
     ensures is { result ≡ (removed memory.old link).answer }
     ensures after { memory.new ≡ (removed memory.old link).memory }
 {
@@ -37,7 +38,7 @@ pub fn remove(memory: &mut [u64], link: Link) -> Result<u64, Refusal>
 
 // Marks all of a chain dead, from a pointer on. A garbage memory may go round.
 #[tactic(auto, using(crate::proofs::Turns::strikes), unfolding(crate::specs::Chains::followed))]
-fn strike(memory: &mut [u64], chain: Chain, first: u64)
+fn strike(memory: &mut Memory, chain: Chain, first: u64)
     ensures { memory.new ≡ struck 67584 memory.old chain first }
 {
     let family = chain.family();
@@ -53,7 +54,7 @@ fn strike(memory: &mut [u64], chain: Chain, first: u64)
 
 // Marks all of a slot's chain dead, and empties it.
 #[tactic(auto, unfolding(crate::specs::Removing::cleared))]
-fn clear(memory: &mut [u64], chain: Chain, slot: u64)
+fn clear(memory: &mut Memory, chain: Chain, slot: u64)
     ensures { memory.new ≡ cleared memory.old chain slot }
 {
     strike(memory, chain, slot);
@@ -62,7 +63,7 @@ fn clear(memory: &mut [u64], chain: Chain, slot: u64)
 
 // Takes all links out of a slot and into it out of the table.
 #[tactic(auto, unfolding(crate::specs::Removing::removed_all))]
-pub fn remove_all(memory: &mut [u64], slot: u64)
+pub fn remove_all(memory: &mut Memory, slot: u64)
     ensures { memory.new ≡ removed_all memory.old slot }
 {
     clear(memory, Chain::Out, slot);

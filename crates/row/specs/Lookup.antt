@@ -10,7 +10,7 @@
 --   withdrawn m e    the memory after an entry was taken out of its chain
 use Rattle.std.specs.Prelude.{ℕ, zero, suc, ◌+◌, ◌-◌, ◌*◌, ◌/◌, ◌%◌, ◌<◌, cond, ◌||◌, List, Some, None, Option, ◌==◌, nat_lt}
 use Rattle.order.specs.declared.board.TheConstants.{CARDS}
-use Rattle.order.specs.Outcomes.{given}
+use Rattle.memory.specs.Options.{given}
 use Rattle.memory.specs.Columns.{cell, written}
 use Rattle.row.specs.declared.layout.TheConstants.{HEADS, BUCKET, IDS, CHAIN}
 use Rattle.row.specs.declared.lookup.Entry.{Entry}

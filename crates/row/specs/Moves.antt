@@ -23,7 +23,8 @@
 use Rattle.std.specs.Prelude.{ℕ, zero, suc, ◌+◌, ◌-◌, ◌/◌, ◌%◌, ◌^◌, min, cond, List, Some, None, Ok, Option, bit_and, bit_or, nat_lt, nat_le, ◌==◌}
 use Rattle.order.specs.declared.board.TheConstants.{CARDS}
 use Rattle.order.specs.declared.board.Refusal.TheVariants.{Missing, Exists, Full}
-use Rattle.order.specs.Outcomes.{Outcome, refused, given}
+use Rattle.order.specs.Outcomes.{Outcome, refused}
+use Rattle.memory.specs.Options.{given}
 use Rattle.memory.specs.Columns.{cell, written}
 use Rattle.row.specs.declared.layout.TheConstants.{SEATS_MOST, SPARE, COUNT, ENDING, FRESH, FREE, SLOTS, SEATS, TAKEN}
 use Rattle.row.specs.Lookup.{bucket, sought, found, entered, withdrawn}
