@@ -6,3 +6,12 @@ pub mod Words
 pub mod Firsts
 pub mod Halving
 pub mod Steps
+pub mod Seatings
+pub mod Chaining
+pub mod Freeing
+pub mod Hashing
+pub mod Seeking
+pub mod Framing
+pub mod Sitting
+pub mod Rows
+pub mod Packs

@@ -1,0 +1,4 @@
+use Rattle.row.proofs.theory.begins_stands.Goals as goal
+
+pub returns : goal.returns
+returns c = ?
