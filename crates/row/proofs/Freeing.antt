@@ -5,7 +5,7 @@ use Rattle.std.proofs.lemmas.Bool.{cases_eq, cases_Bool, eq-eqb, ne_eqb, both_wa
 use Rattle.order.specs.declared.board.TheConstants.{CARDS}
 use Rattle.order.specs.Lists.{any, has, distinct}
 use Rattle.row.specs.Meaning.{Stacked, Freed}
-use Rattle.row.proofs.Chaining.{has_head, has_tail, not_again, distinct_tail, has_at}
+use Rattle.order.proofs.Members.{has_head, has_tail, not_again, distinct_tail, has_at}
 
 stacked_same : (seat seat' : ℕ → ℕ) (xs : List ℕ) (t : ℕ) → ((s : ℕ) → has xs s ≡ true → seat' s ≡ seat s) → Stacked seat t xs → Stacked seat' t xs
 stacked_same seat seat' [] t h w = w

@@ -8,7 +8,8 @@ use Rattle.order.proofs.Filters.{has_filter, distinct_filter}
 use Rattle.row.specs.declared.layout.TheConstants.{HEADS}
 use Rattle.row.specs.Lookup.{bucket}
 use Rattle.row.specs.Meaning.{Chains}
-use Rattle.row.proofs.Chaining.{holder, holder_apart, without, spells_move, spells_entered, spells_withdrawn, has_at}
+use Rattle.order.proofs.Members.{without, has_at}
+use Rattle.row.proofs.Chaining.{holder, holder_apart, spells_move, spells_entered, spells_withdrawn}
 
 pub bucket_below : (k : ℕ) → bucket k < HEADS
 unfolding bucket

@@ -15,3 +15,4 @@ pub mod Framing
 pub mod Sitting
 pub mod Rows
 pub mod Packs
+pub mod Present

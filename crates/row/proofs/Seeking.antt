@@ -11,7 +11,8 @@ use Rattle.memory.specs.Options.{given, Within}
 use Rattle.memory.proofs.Options.{given_holds}
 use Rattle.row.specs.Lookup.{EntryBelow, followed, entry, sought}
 use Rattle.row.specs.Meaning.{Spells}
-use Rattle.row.proofs.Chaining.{holder, has_head, has_tail, has_on}
+use Rattle.order.proofs.Members.{has_head, has_tail, has_on}
+use Rattle.row.proofs.Chaining.{holder}
 
 module _ (m : List ℕ) where
   pub followed_none : (p : ℕ) → cell m CHAIN p ≡ 0 → followed m p ≡ None
