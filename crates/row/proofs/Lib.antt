@@ -16,3 +16,5 @@ pub mod Sitting
 pub mod Rows
 pub mod Packs
 pub mod Present
+pub mod Again
+pub mod Coming
