@@ -47,7 +47,7 @@ row_again m n S sn a =
       };
     }
 
-map_same : (f g : ℕ → ℕ) → ((t : ℕ) → f t ≡ g t) → (xs : List ℕ) → map f xs ≡ map g xs
+pub map_same : (f g : ℕ → ℕ) → ((t : ℕ) → f t ≡ g t) → (xs : List ℕ) → map f xs ≡ map g xs
 map_same f g h [] = refl
 map_same f g h (x ∷ xs) = let e = h x in let ih = map_same f g h xs in cc
 

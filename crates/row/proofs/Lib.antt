@@ -18,3 +18,9 @@ pub mod Packs
 pub mod Present
 pub mod Again
 pub mod Coming
+pub mod Going
+pub mod Named
+pub mod Beginning
+pub mod Depending
+pub mod Puttings
+pub mod Tellings
