@@ -24,3 +24,4 @@ pub mod Beginning
 pub mod Depending
 pub mod Puttings
 pub mod Tellings
+pub mod Contracts
