@@ -10,7 +10,7 @@ use Rattle.memory.specs.Footprints.{Writes}
 use Rattle.row.specs.declared.layout.TheConstants.{SEATS_MOST, SPARE, COUNT, ENDING, FRESH, FREE, IDS, CHAIN, SLOTS, SEATS, TAKEN}
 use Rattle.row.specs.Meaning.{amount, count, ending, fresh, free, taken, row_of, cards, used, place_at, Freed, IsRow}
 use Rattle.row.specs.Moves.{compacted, roomy, tidied, packed}
-use Rattle.row.specs.Laws.{Packed}
+use Rattle.row.specs.Laws.{gaps, room_turns, tidy_turns, Packed}
 use Rattle.row.proofs.Listing.{amount_none, amount_more, amount_le}
 use Rattle.row.proofs.Along.{amount_all}
 use Rattle.row.proofs.Hashing.{chains_same, one_slot_same}
@@ -184,6 +184,24 @@ module _ (m : List ℕ) (S : IsRow m) where
       cond_both (leb SEATS_MOST (ending m)) (compacted m) m (λ (x : List ℕ). ending x ≤ 2 * count m + SPARE)
       (λ _. let p = compacted_packed m S in let a = p.tight in let b = p.same_count in omega arith)
       (λ e. h)
+
+  -- and those who went pay for it
+  pub roomy_paid : count m < CARDS → room_turns m + 2 * gaps (roomy m) ≤ 2 * gaps m
+  unfolding roomy room_turns
+  roomy_paid l = go (leb SEATS_MOST (ending m)) refl
+    where
+      go : (b : Bool) → leb SEATS_MOST (ending m) ≡ b → cond b (ending m) 0 + 2 * gaps (cond b (compacted m) m) ≤ 2 * gaps m
+      go true e = let p = compacted_packed m S in let a = p.tight in let c = p.same_count in let f = leb-true SEATS_MOST (ending m) e in omega arith
+      go false e = omega arith
+
+  pub tidied_paid : tidy_turns (count m) (ending m) + 2 * gaps (tidied m) ≤ 2 * gaps m
+  unfolding tidied tidy_turns
+  tidied_paid = go (ltb (count m) (ending m - count m - SPARE)) refl
+    where
+      go : (b : Bool) → ltb (count m) (ending m - count m - SPARE) ≡ b → cond b (ending m) 0 + 2 * gaps (cond b (compacted m) m) ≤ 2 * gaps m
+      go true e =
+          let p = compacted_packed m S in let a = p.tight in let f = ltb-true (count m) (ending m - count m - SPARE) e in omega arith
+      go false e = omega arith
 
   pub same_tidied : Same m (tidied m)
   unfolding tidied

@@ -22,7 +22,7 @@ use Rattle.row.proofs.Hashing.{bucket_below, Enters, entered_chains, entered_one
 use Rattle.row.proofs.Freeing.{next_slot, next_low, next_free, freed_pop}
 use Rattle.row.proofs.Rows.{seated, row_by, ending_written, nowhere}
 use Rattle.row.proofs.Present.{standing, long_row, length_cards, row_used, card_slot, found_there, found_absent, has_card}
-use Rattle.row.proofs.Again.{same_roomy, roomy_open, roomy_spare}
+use Rattle.row.proofs.Again.{same_roomy, roomy_open, roomy_spare, roomy_paid}
 
 slot_is_next : (m : List ℕ) → slot_for m ≡ next_slot (fresh m) (free m)
 unfolding slot_for
@@ -326,6 +326,12 @@ came_law m k S new l =
           let a = roomy_spare m S h in
           let b = end_arrived r (count m) k g.is_row g.same_count l fit n in
           let d = count_arrived r (count m) k g.is_row g.same_count l fit n in
+          omega arith;
+      paid =
+          let a = roomy_paid m S l in
+          let b = end_arrived r (count m) k g.is_row g.same_count l fit n in
+          let d = count_arrived r (count m) k g.is_row g.same_count l fit n in
+          let c = g.same_count in
           omega arith;
     }
 
