@@ -1,24 +1,22 @@
 -- A row whose slots took other seats is a row again, of the same cards.
-use Rattle.std.proofs.Common.{◌≡◌, ℕ, zero, suc, ◌+◌, ◌-◌, ◌*◌, ◌<◌, ◌≤◌, Bool, true, false, cond, eqb, ltb, leb, List, [], ◌∷◌, map, length, sym, refl, ap, ap₂, ◌∙◌, subst, ⊎_elim, inl, inr, arith}
-use Rattle.std.specs.List.{range_with_len}
-use Rattle.std.proofs.lemmas.Bool.{cases_Bool, cases_lt, cond_both, eqb-true, eqb-false, leb-true, leb-false, ltb-true, ltb-false, both_ways}
-use Rattle.std.proofs.lemmas.Bool.Decides.{nat_tests}
+use Rattle.std.proofs.Common.{◌≡◌, ℕ, zero, suc, ◌+◌, ◌-◌, ◌*◌, ◌<◌, ◌≤◌, Bool, true, false, cond, eqb, ltb, leb, List, [], ◌∷◌, map, sym, refl, ap, ◌∙◌, subst, ⊎_elim, arith}
+use Rattle.std.proofs.lemmas.Bool.{cases_lt, cond_both, eqb-true, leb-true, leb-false, ltb-true, ltb-false}
 use Rattle.order.specs.declared.board.TheConstants.{CARDS}
 use Rattle.order.specs.Lists.{place}
 use Rattle.memory.specs.Columns.{cell}
 use Rattle.memory.specs.Footprints.{Writes}
-use Rattle.row.specs.declared.layout.TheConstants.{SEATS_MOST, SPARE, COUNT, ENDING, FRESH, FREE, IDS, CHAIN, SLOTS, SEATS, TAKEN}
-use Rattle.row.specs.Meaning.{amount, count, ending, fresh, free, taken, row_of, cards, used, place_at, Freed, IsRow}
+use Rattle.row.specs.declared.layout.TheConstants.{SEATS_MOST, SPARE, COUNT, FRESH, FREE, IDS, CHAIN, SEATS}
+use Rattle.row.specs.Meaning.{amount, count, ending, fresh, free, taken, row_of, cards, used, Freed, IsRow}
 use Rattle.row.specs.Moves.{compacted, roomy, tidied, packed}
 use Rattle.row.specs.Laws.{gaps, room_turns, tidy_turns, Packed}
-use Rattle.row.proofs.Listing.{amount_none, amount_more, amount_le}
+use Rattle.row.proofs.Listing.{amount_more, amount_le}
 use Rattle.row.proofs.Along.{amount_all}
 use Rattle.row.proofs.Hashing.{chains_same, one_slot_same}
 use Rattle.row.proofs.Freeing.{freed_same}
 use Rattle.row.proofs.Framing.{packing, compacted_writes}
 use Rattle.row.proofs.Rows.{Seated, seated}
 use Rattle.row.proofs.Packs.{Compacted, compacts, tight_full, tight_dense}
-use Rattle.row.proofs.Present.{standing, used_seat, place_slot, few_cards}
+use Rattle.row.proofs.Named.{standing, used_seat, place_slot}
 
 -- what is left of the columns but for the seats
 pub record Apart (m n : List ℕ) : Type 0 where

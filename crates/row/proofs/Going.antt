@@ -1,5 +1,5 @@
 -- A card that goes leaves the others in their order.
-use Rattle.std.proofs.Common.{◌≡◌, ℕ, suc, ◌+◌, ◌-◌, ◌*◌, ◌<◌, ◌≤◌, Bool, true, false, not, ◌&&◌, eqb, List, [], ◌∷◌, map, length, Some, None, Ok, sym, refl, ap, ◌∙◌, subst, add-one, inl, inr, arith}
+use Rattle.std.proofs.Common.{◌≡◌, ℕ, suc, ◌+◌, ◌-◌, ◌<◌, ◌≤◌, Bool, true, false, not, ◌&&◌, eqb, List, [], ◌∷◌, map, length, Some, None, Ok, sym, refl, ap, ◌∙◌, subst, add-one, inl, inr, arith}
 use Rattle.std.proofs.lemmas.Bool.{cases_eq, eq-eqb, ne_eqb}
 use Rattle.order.specs.declared.board.TheConstants.{CARDS}
 use Rattle.order.specs.declared.board.Refusal.TheVariants.{Missing}
@@ -11,9 +11,9 @@ use Rattle.memory.specs.declared.column.Column.{Column}
 use Rattle.memory.specs.Columns.{cell, written, apart}
 use Rattle.memory.proofs.Cells.{length_written, cell_same, cell_other, cell_apart}
 use Rattle.row.specs.declared.lookup.Entry.{Entry}
-use Rattle.row.specs.declared.layout.TheConstants.{SEATS_MOST, SPARE, HEADS, COUNT, ENDING, FRESH, FREE, IDS, CHAIN, SLOTS, SEATS, TAKEN}
+use Rattle.row.specs.declared.layout.TheConstants.{HEADS, COUNT, ENDING, FRESH, FREE, IDS, CHAIN, SLOTS, SEATS, TAKEN}
 use Rattle.row.specs.Lookup.{bucket, entry, sought, withdrawn}
-use Rattle.row.specs.Meaning.{in_use, count, ending, fresh, free, taken, row_of, cards, used, Standing, Freed, IsRow}
+use Rattle.row.specs.Meaning.{in_use, count, ending, fresh, free, taken, row_of, cards, used, Standing, IsRow}
 use Rattle.row.specs.Moves.{unmarked, slot_freed, left, tidied, gone}
 use Rattle.row.specs.Laws.{tidy_turns, Gone}
 use Rattle.row.proofs.Turning.{length_unmarked, beside_unmarked, taken_same, taken_unmarked}
@@ -23,7 +23,8 @@ use Rattle.row.proofs.Hashing.{bucket_below, withdrawn_chains, withdrawn_one}
 use Rattle.row.proofs.Freeing.{freed_push}
 use Rattle.row.proofs.Along.{listed_same}
 use Rattle.row.proofs.Rows.{seated, room, row_by}
-use Rattle.row.proofs.Present.{standing, long_row, row_used, used_below, used_seat, chain_below, one_slot, card_slot, sought_there, sought_absent}
+use Rattle.row.proofs.Named.{standing, long_row, row_used, used_below, used_seat, one_slot}
+use Rattle.row.proofs.Present.{chain_below, card_slot, sought_there, sought_absent}
 use Rattle.row.proofs.Again.{map_same, same_tidied, tidied_spare, tidied_paid}
 
 -- slots in use, over another column that holds the same
