@@ -19,4 +19,4 @@ pub use lookup::find;
 pub use ranks::rank;
 pub use seating::{pack, put_at, seat_of, slot_at};
 pub use telling::{next, select, tell};
-pub use theory::columns_stand;
+pub use theory::{apart_stands, begins_stands, columns_stand, depends_stands, slots_named_stands};

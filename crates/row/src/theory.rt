@@ -2,6 +2,7 @@
 ghost use Rattle.std.specs.Prelude.{◌≡◌, true};
 ghost use Rattle.memory.specs.Footprints.{all_apart, all_lie};
 ghost use Rattle.row.specs.Columns.{columns};
+ghost use Rattle.row.specs.Theory.{Begins, Apart, SlotsNamed, Depends};
 
 use memory::LINKS_BASE;
 
@@ -9,4 +10,24 @@ use memory::LINKS_BASE;
 pub fn columns_stand()
     ensures apart { all_apart columns ≡ true }
     ensures lie { all_lie LINKS_BASE columns ≡ true }
+{}
+
+// Zeros are a row, with no cards.
+pub fn begins_stands()
+    ensures { Begins }
+{}
+
+// No card stands twice.
+pub fn apart_stands()
+    ensures { Apart }
+{}
+
+// The board of cards is the board of slots with other names.
+pub fn slots_named_stands()
+    ensures { SlotsNamed }
+{}
+
+// What the row means depends on the columns of this crate alone.
+pub fn depends_stands()
+    ensures { Depends }
 {}
