@@ -3,3 +3,4 @@ mod Turns
 mod Filtering
 mod Parting
 pub mod Writing
+mod Coming
