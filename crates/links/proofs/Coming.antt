@@ -1,6 +1,8 @@
 -- Entries come into the chains of a table and go out of them.
 use Rattle.std.proofs.Common.{◌≡◌, ℕ, ◌<◌, ◌≤◌, true, false, cond, eqb, List, [], ◌∷◌, map, length, refl, sym, ap, ◌∙◌, subst, inl, inr, lit<, arith}
-use Rattle.std.specs.List.{list_all, IsDistinct}
+use Rattle.std.specs.List.{list_all, IsDistinct, AllByRecursion}
+use Rattle.std.proofs.lemmas.Map.Keys.{IsDistinct-head}
+use Rattle.std.proofs.lemmas.Bool.Decides.{nat_tests}
 use Rattle.std.proofs.lemmas.Bool.{cases_Bool, cases_eq, eq-eqb, eqb-true}
 use Rattle.order.specs.declared.board.TheConstants.{CARDS}
 use Rattle.order.specs.declared.board.Link.{Link}
@@ -114,3 +116,31 @@ module _ (m : List ℕ) (L : List Entry) (free : List Pointer) (h : Holds AGE m 
     where
       left : (k : ℕ) → out_of e (aged L free k) ≡ aged (others e L) free k
       left k = elim (cases_Bool (eqb k ALL)) [ inl u ↦ rw u (all_out pair e L) | inr u ↦ rw u (out_absent e free (not_free e t)) ]
+
+-- the first free entry is taken
+first_absent : (e : ℕ) (xs : List Pointer) → AllByRecursion (λ j. eqb e j ≡ false) (map (λ x. x.held) xs) → has e xs ≡ false
+first_absent e [] a = refl
+first_absent e (x ∷ xs) a = let u : eqb x.held e ≡ false = let w = a.0 in grind (arith, nat_tests) in rw u (first_absent e xs a.1)
+
+module _ (m : List ℕ) (L : List Entry) (x : Pointer) (rest : List Pointer) (h : Holds AGE m (aged L (x ∷ rest))) where
+  pub taken_absent : has x.held rest ≡ false
+  taken_absent =
+      first_absent x.held rest (IsDistinct-head eqb x.held (map (λ y. y.held) rest) ((once_each m L (x ∷ rest) h).0 FREE (lit< tt)))
+
+  taken_has : has x.held (x ∷ rest) ≡ true
+  taken_has = rw (eq-eqb x.held x.held refl) refl
+
+  pub taken_not_listed : listed x.held L ≡ false
+  taken_not_listed = free_not_listed m L (x ∷ rest) h x.held taken_has
+
+  pub went_free : Holds AGE (unhooked AGE m x.held) (aged L rest)
+  unfolding Goes
+  went_free =
+      holds_like AGE (unhooked AGE m x.held) (λ j. out_of x.held (aged L (x ∷ rest) j)) (aged L rest) (λ k l. left k)
+      (goes AGE m x.held (aged L (x ∷ rest)) FREE h (lit< tt) taken_has)
+    where
+      left : (k : ℕ) → out_of x.held (aged L (x ∷ rest) k) ≡ aged L rest k
+      left k = elim (cases_Bool (eqb k ALL)) [
+        | inl u ↦ rw u (out_absent x.held (map (point pair) L) (all_has pair x.held L ∙ taken_not_listed))
+        | inr u ↦ rw u (rw (eq-eqb x.held x.held refl) (out_absent x.held rest taken_absent))
+      ]

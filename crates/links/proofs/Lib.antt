@@ -4,3 +4,4 @@ mod Filtering
 mod Parting
 pub mod Writing
 mod Coming
+mod Freeing
