@@ -38,6 +38,7 @@ pub record Beside (G : ChainTable) (key label : Link → ℕ) (m : List ℕ) (L 
 -- a table by the slots of links: where its keys end, and that it shares nothing with the others
 pub record Side (G : ChainTable) (key : Link → ℕ) : Type 0 where
   pub below : (z : Link) → is_between z ≡ true → key z < G.heads
+  pub size : G.cells.size ≤ G.heads + ENTRIES + 1
   pub live_stays : clear (G.cells ∷ []) LIVE ≡ true
   pub used_stays : clear (G.cells ∷ []) USED ≡ true
   pub ages_stay : clear (G.cells ∷ []) AGE.cells ≡ true

@@ -5,3 +5,4 @@ mod Parting
 pub mod Writing
 mod Coming
 mod Freeing
+mod Dropping
