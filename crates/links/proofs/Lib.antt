@@ -6,3 +6,6 @@ pub mod Writing
 mod Coming
 mod Freeing
 mod Dropping
+pub mod Telling
+mod Standing
+mod Taking

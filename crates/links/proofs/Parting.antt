@@ -183,3 +183,10 @@ low_listed n e (y ∷ L) a t =
       | inl u ↦ let w = p.0 in grind (arith, nat_tests)
       | inr u ↦ low_listed n e L p.1 (let q : (eqb y.number e || listed e L) ≡ true = t in rw u at q)
     ]
+
+pub low_more_free : (n : ℕ) (xs : List Pointer) → list_all (λ x. leb x.held n) xs ≡ true → list_all (λ x. leb x.held (n + 1)) xs ≡ true
+low_more_free n [] a = refl
+low_more_free n (x ∷ xs) a =
+    let t = and_parts (leb x.held n) (list_all (λ z. leb z.held n) xs) a in
+    let u : leb x.held (n + 1) ≡ true = let w = t.0 in grind (arith, nat_tests) in
+    rw u (low_more_free n xs t.1)
