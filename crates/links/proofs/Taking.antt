@@ -91,7 +91,7 @@ module _ (m : List ℕ) (L : List Entry) where
       }
 
   -- what is taken, if there is one left
-  pub Taken : Type 0
+  abbrev pub Taken : Type 0
   Taken = ((e : ℕ) × (free : List Pointer) × (free_entry m ≡ Some e) × Took (taken m) e L free)
       ⊎ ((free_entry m ≡ None) × (taken m ≡ m) × (length L ≡ ENTRIES))
 
@@ -108,7 +108,6 @@ module _ (m : List ℕ) (L : List Entry) where
   none_free e b = let l : ltb (used m) ENTRIES ≡ false = grind (arith, nat_tests) in (rw (e, l) refl, rw (e, l) refl)
 
   pub taking : (free : List Pointer) → TableOf (view columns m) L free → Taken
-  unfolding Taken
   taking [] t =
       let e = met_none AGE m FREE (t.ages.spelled FREE (lit< tt)) in
       elim (cases_lt (used m) ENTRIES) [
