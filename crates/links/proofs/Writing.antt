@@ -118,10 +118,15 @@ module _ (F G : ChainTable) (b : within (F.cells ∷ []) columns ≡ true) (c : 
   unfolding emptied
   emptied_writes m s = then_cleared columns F b m _ (dropped_writes ENTRIES m s) s
 
+pub out_emptied_writes : (m : List ℕ) (s : ℕ) → Writes columns m (emptied OUT IN m s)
+out_emptied_writes m s = emptied_writes OUT IN refl refl m s
+
+pub in_emptied_writes : (m : List ℕ) (s : ℕ) → Writes columns m (emptied IN OUT m s)
+in_emptied_writes m s = emptied_writes IN OUT refl refl m s
+
 pub removed_all_writes : (m : List ℕ) (s : ℕ) → Writes columns m (removed_all m s)
 unfolding removed_all
 removed_all_writes m s =
     either columns m (ltb s CARDS) _ m
-    (on columns m (emptied OUT IN m s) (emptied IN OUT (emptied OUT IN m s) s) (emptied_writes OUT IN refl refl m s)
-    (emptied_writes IN OUT refl refl (emptied OUT IN m s) s))
+    (on columns m (emptied OUT IN m s) (emptied IN OUT (emptied OUT IN m s) s) (out_emptied_writes m s) (in_emptied_writes (emptied OUT IN m s) s))
     (same columns m)

@@ -13,10 +13,11 @@ use memory::Memory;
 use order::Link;
 
 // Puts an entry, with its link, in front of the chains that the link belongs to.
-#[tactic(auto, unfolding(crate::specs::Entries::hung))]
+#[tactic(auto, using(memory::proofs::Footprints::footprints), unfolding(crate::specs::Entries::hung))]
 #[inline(always)]
 fn hang(memory: &mut Memory, link: Link, held: u64)
-    ensures { memory.new ≡ hung memory.old link held }
+    ensures is { memory.new ≡ hung memory.old link held }
+    ensures wrote { Writes (OUT.cells ∷ IN.cells ∷ AGE.cells ∷ PAIR.cells ∷ []) memory.old memory.new }
 {
     let label = pair(link);
     OUT.push(
@@ -40,7 +41,7 @@ fn hang(memory: &mut Memory, link: Link, held: u64)
 }
 
 // Puts a link between slots into the table, behind all others; nothing if there is no entry left.
-#[tactic(auto, using(crate::proofs::Promises::promises), unfolding(crate::specs::Entries::inserted))]
+#[tactic(auto, using(crate::proofs::Promises::inserting), unfolding(crate::specs::Entries::inserted))]
 #[inline(always)]
 pub fn insert(memory: &mut Memory, link: Link)
     ensures is { memory.new ≡ inserted memory.old link }
