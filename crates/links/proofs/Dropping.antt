@@ -16,7 +16,7 @@ use Rattle.chains.specs.Chains.{Holds, has, emptied as chains_emptied}
 use Rattle.chains.specs.Laws.{Empties}
 use Rattle.chains.proofs.Walking.{Leads, leads, met_none, met_some}
 use Rattle.chains.proofs.Reading.{has_first, has_more, head_off, distinct, short, one_chain}
-use Rattle.chains.proofs.Framing.{holds_kept, unhooked_writes, cleared_writes, cells_kept}
+use Rattle.chains.proofs.Framing.{holds_kept, unhooked_writes, cleared_writes, cells_kept, leads_same}
 use Rattle.chains.proofs.Clearing.{empties}
 use Rattle.chains.specs.Packing.{decoded}
 use Rattle.links.specs.declared.layout.TheConstants.{ENTRIES, LIVE, AGE, PAIR}
@@ -91,10 +91,6 @@ module _ (F G : ChainTable) (key label : Link → ℕ) (sf : Side F key) (sg : S
       holds_kept F (LIVE ∷ AGE.cells ∷ PAIR.cells ∷ []) sf.stays (unhooked G m h) (stepped m h) (freed_writes (unhooked G m h) h) a
       (holds_kept F (G.cells ∷ []) c m (unhooked G m h) (unhooked_writes G m h) a x)
 
-  leads_same : (f f' : ℕ → Cell) → ((p : ℕ) → f' p ≡ f p) → (xs : List Pointer) (p : ℕ) → Leads F f p xs → Leads F f' p xs
-  leads_same f f' e [] p s = ap (λ (i : Cell). i.next.held) (e p) ∙ s
-  leads_same f f' e (x ∷ xs) p s = (ap (λ (i : Cell). i.next) (e p) ∙ s.0, s.1, leads_same f f' e xs (node F x.held) s.2)
-
   dropping : (ys : List Pointer) (f : ℕ) (m : List ℕ) (p : ℕ) (L : List Entry) (free : List Pointer) → Leads F (at F m) p ys → length ys ≤ f
       → Beside G label key m L free → Listed ys L → Dropped m (dropped f F G m p) (without ys L)
   dropping [] f m p L free s b i l =
@@ -104,7 +100,7 @@ module _ (F G : ChainTable) (key label : Link → ℕ) (sf : Side F key) (sg : S
       let g = given_back G label key sg m L free i x.held l.0 in
       let e : f ≡ suc (f - 1) = omega arith in
       let r = dropping ys (f - 1) n (node F x.held) (others x.held L) (pointer x.held 0 ∷ free)
-      (leads_same (at F m) (at F n) (stepped_column m x.held) ys (node F x.held) s.2) (omega arith) g l.1 in
+      (leads_same F (at F m) (at F n) (stepped_column m x.held) ys (node F x.held) s.2) (omega arith) g l.1 in
       rw (dropped_some F G f (f - 1) m p x e (met_some F m p x s.0 s.1)) (record {
         free = r.free;
         beside = r.beside;

@@ -7,8 +7,8 @@
 --   RemovesAll m s m' the links out of the slot s and into it are there no more, and the others stay, in their order
 --   Begins           zeros are a table with no links
 --   StaysOnce        no link is there twice: so at first, after a link was put in that wasn't there, and after links were taken out
---   Gives            a walk along a slot's chain gives the links out of it or into it, just these, the newest first, and one along the chain of all
---                    gives them all
+--   Gives            a walk along a slot's chain gives the links out of it or into it, just these, the newest first: so what it meets at their other
+--                    ends is what is linked. A walk along the chain of all gives them all
 use Rattle.std.specs.Prelude.{◌≡◌, ℕ, ◌<◌, ◌≤◌, Bool, true, false, not, ◌&&◌, ◌||◌, List, [], ◌∷◌, ◌++◌, map, reverse, length, replicate, is_some, is_ok, Some, Option, Err, Result, ◌==◌, nat_lt}
 use Rattle.memory.specs.declared.column.TheConstants.{MEMORY}
 use Rattle.memory.specs.declared.column.Column.{Column}
@@ -18,6 +18,7 @@ use Rattle.order.specs.declared.board.TheConstants.{CARDS}
 use Rattle.order.specs.declared.board.Link.{Link}
 use Rattle.order.specs.declared.board.Refusal.{Refusal}
 use Rattle.order.specs.declared.board.Refusal.TheVariants.{Missing}
+use Rattle.order.specs.Board.{◌⟶◌}
 use Rattle.order.specs.Lists.{every, any, filter}
 use Rattle.chains.specs.Walks.{walked}
 use Rattle.links.specs.declared.layout.TheConstants.{ENTRIES, OUT, IN, AGE, ALL}
@@ -60,4 +61,6 @@ unfoldable pub Gives : Type 0
 Gives = (m : List ℕ) → IsTable m
     → ((s : ℕ) → s < CARDS → map (λ x. x.label) (walked ENTRIES OUT m s) ≡ reverse (map (λ y. y.to) (filter (λ y. y.from == s) (edges m))))
     × ((s : ℕ) → s < CARDS → map (λ x. x.label) (walked ENTRIES IN m s) ≡ reverse (map (λ y. y.from) (filter (λ y. y.to == s) (edges m))))
+    × ((a b : ℕ) → a < CARDS → any (λ x. x.label == b) (walked ENTRIES OUT m a) ≡ any (joins (a ⟶ b)) (edges m))
+    × ((a b : ℕ) → b < CARDS → any (λ x. x.label == a) (walked ENTRIES IN m b) ≡ any (joins (a ⟶ b)) (edges m))
     × (map (λ x. x.label) (walked ENTRIES AGE m ALL) ≡ reverse (map pair (edges m)))
