@@ -1,8 +1,8 @@
 -- One of the two searches goes on from one card.
 use Rattle.std.proofs.Common.{◌≡◌, ℕ, ◌+◌, ◌-◌, ◌<◌, ◌≤◌, true, ◌⊎◌, List, Some, None, Option, Continue, Break, ControlFlow, sym, refl, ap, ◌∙◌, inl, inr, arith}
-use Rattle.row.specs.declared.board.Link.{Link}
-use Rattle.row.specs.Board.{◌⟶◌}
-use Rattle.row.specs.Columns.{cell}
+use Rattle.order.specs.declared.board.Link.{Link}
+use Rattle.order.specs.Board.{◌⟶◌}
+use Rattle.memory.specs.Columns.{cell}
 use Rattle.row.specs.Layout.{places, slots}
 use Rattle.row.specs.Meaning.{used}
 use Rattle.links.specs.declared.chain.Chain.{Chain}
@@ -13,7 +13,7 @@ use Rattle.links.proofs.Stepping.{at_head}
 use Rattle.search.specs.declared.side.Side.{Side}
 use Rattle.search.specs.declared.side.Side.TheVariants.{Fore, Hind}
 use Rattle.search.specs.declared.hunt.Front.{Front}
-use Rattle.search.specs.Marks.{marked}
+use Rattle.memory.specs.PlaceSets.{marked}
 use Rattle.search.specs.Sides.{chain_of, marks_of, other, ahead}
 use Rattle.search.specs.Hunt.{Spreading, spreading, Going, advanced, moved, gone_on, part_of}
 use Rattle.search.specs.Meaning.{Trailed}

@@ -1,16 +1,16 @@
 -- The two searches over the board of slots: what a link tells of slots and places, for both directions at once.
 use Rattle.std.proofs.Common.{◌≡◌, ℕ, ◌<◌, ◌≤◌, Bool, true, ltb, leb, List, arith}
 use Rattle.std.proofs.lemmas.Bool.{and_parts, and_from, le-leb, leb-true, ltb-true}
-use Rattle.row.specs.Lists.{has}
-use Rattle.row.specs.Board.{Board, leads, linked}
-use Rattle.row.specs.Columns.{cell}
+use Rattle.order.specs.Lists.{has}
+use Rattle.order.specs.Board.{Board, leads, linked}
+use Rattle.memory.specs.Columns.{cell}
 use Rattle.row.specs.Layout.{slots, places, count, fresh}
 use Rattle.row.specs.Meaning.{row_of, used}
 use Rattle.row.proofs.Named.{place_slot}
-use Rattle.row.proofs.Tabulated.{made_has}
+use Rattle.order.proofs.Tabulated.{made_has}
 use Rattle.row.proofs.Present.{slot_used, used_place}
-use Rattle.row.proofs.Climbs.{Fine, fine_parts, link_ends, link_before}
-use Rattle.row.proofs.Leading.{leads_just}
+use Rattle.order.proofs.Climbs.{Fine, fine_parts, link_ends, link_before}
+use Rattle.order.proofs.Leading.{leads_just}
 use Rattle.search.specs.declared.side.Side.{Side}
 use Rattle.search.specs.declared.side.Side.TheVariants.{Fore, Hind}
 use Rattle.search.specs.Sides.{other}

@@ -1,14 +1,14 @@
 -- The two searches in turn, to their end.
 use Rattle.std.proofs.Common.{◌≡◌, ℕ, zero, suc, ◌*◌, ◌<◌, ◌≤◌, true, false, ◌&&◌, ◌⊎◌, List, Some, None, Option, Continue, Break, ControlFlow, sym, refl, ap, ◌∙◌, inl, inr, arith}
 use Rattle.std.proofs.lemmas.Bool.{and_parts, both_ways, cond_both}
-use Rattle.row.specs.declared.board.Link.{Link}
-use Rattle.row.specs.Board.{◌⟶◌}
-use Rattle.row.specs.Lookup.{given}
+use Rattle.order.specs.declared.board.Link.{Link}
+use Rattle.order.specs.Board.{◌⟶◌}
+use Rattle.memory.specs.Options.{given}
 use Rattle.search.specs.declared.side.Side.{Side}
 use Rattle.search.specs.declared.side.Side.TheVariants.{Fore, Hind}
 use Rattle.search.specs.declared.hunt.Part.{Part}
 use Rattle.search.specs.declared.hunt.Front.{Front}
-use Rattle.search.specs.Marks.{marked}
+use Rattle.memory.specs.PlaceSets.{marked}
 use Rattle.search.specs.Sides.{marks_of, other}
 use Rattle.search.specs.Hunt.{gone_on, idle, Met, met_with, hunt_on, hunted, part_of}
 use Rattle.search.specs.Meaning.{Parted}

@@ -3,11 +3,11 @@ use Rattle.std.proofs.Common.{◌≡◌, ℕ, ◌+◌, ◌-◌, ◌<◌, ◌≤�
 use Rattle.std.proofs.lemmas.Bool.{ltb-true, lt-ltb, le-ltb, both_ways, cases_order}
 use Rattle.search.specs.declared.side.Side.{Side}
 use Rattle.search.specs.declared.side.Side.TheVariants.{Fore, Hind}
-use Rattle.search.specs.Marks.{marked}
-use Rattle.search.specs.MarkLaws.{Summed, JustAfter, JustBefore}
+use Rattle.memory.specs.PlaceSets.{marked}
+use Rattle.memory.specs.PlaceSetLaws.{Summed, JustAfter, JustBefore}
 use Rattle.search.specs.Sides.{marks_of, ahead}
-use Rattle.search.proofs.Upward.{going_up}
-use Rattle.search.proofs.Downward.{going_down}
+use Rattle.memory.proofs.Upward.{going_up}
+use Rattle.memory.proofs.Downward.{going_down}
 use Rattle.search.proofs.Between.{Beyond}
 
 abbrev pub passed : Side → Option ℕ → ℕ → Bool

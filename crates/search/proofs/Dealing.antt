@@ -1,14 +1,14 @@
 -- The places of both sets are given to the slots of `chosen`, one after another.
 use Rattle.std.proofs.Common.{◌≡◌, ℕ, zero, suc, ◌+◌, ◌<◌, ◌≤◌, Bool, true, ◌||◌, List, [], ◌∷◌, length, Some, None, Option, sym, refl, ap, ◌∙◌, inl, inr, arith}
 use Rattle.std.proofs.lemmas.Bool.{cases_eq}
-use Rattle.row.specs.declared.column.Column.{Column}
-use Rattle.row.specs.Lists.{has}
-use Rattle.row.specs.Columns.{cell, written, apart}
+use Rattle.memory.specs.declared.column.Column.{Column}
+use Rattle.order.specs.Lists.{has}
+use Rattle.memory.specs.Columns.{cell, written, apart}
 use Rattle.row.specs.Layout.{slots, places}
-use Rattle.row.proofs.Cells.{length_written, cell_same, cell_other, cell_apart}
-use Rattle.row.proofs.Chaining.{has_head, has_tail}
+use Rattle.memory.proofs.Cells.{length_written, cell_same, cell_other, cell_apart}
+use Rattle.order.proofs.Members.{has_head, has_tail}
 use Rattle.search.specs.Layout.{fore, hind, chosen}
-use Rattle.search.specs.Marks.{next_up, first_mark}
+use Rattle.memory.specs.PlaceSets.{next_up, first_mark}
 use Rattle.search.specs.Settle.{both_first, both_next, seated, dealt}
 use Rattle.search.proofs.Listed.{From, Lists, from_sooner, from_list}
 use Rattle.search.proofs.Gathering.{Marking, marking_written, from_next, from_first, Reads}

@@ -1,24 +1,25 @@
 -- A search comes to one slot more.
 use Rattle.std.proofs.Common.{◌≡◌, ℕ, ◌<◌, Bool, true, false, cond, not, ◌&&◌, ◌||◌, eqb, ◌⊎◌, List, sym, refl, ap, ◌∙◌, inl, inr, arith}
 use Rattle.std.proofs.lemmas.Bool.{both_ways, cases_Bool, cases_eq, or_cases, or_left, or_right, eq-eqb, eqb-true}
-use Rattle.row.specs.declared.board.Link.{Link}
-use Rattle.row.specs.Board.{◌⟶◌}
-use Rattle.row.specs.Columns.{cell, written, apart}
+use Rattle.order.specs.declared.board.Link.{Link}
+use Rattle.order.specs.Board.{◌⟶◌}
+use Rattle.memory.specs.Columns.{cell, written, apart}
 use Rattle.row.specs.Layout.{places, slots}
 use Rattle.row.specs.Meaning.{used}
-use Rattle.row.proofs.Cells.{length_written, cell_same, cell_other, cell_apart}
+use Rattle.memory.proofs.Cells.{length_written, cell_same, cell_other, cell_apart}
 use Rattle.links.specs.Frames.{Alike}
 use Rattle.links.proofs.Sameness.{alike_refl, alike_trans, alike_written, holds_alike}
 use Rattle.search.specs.declared.side.Side.{Side}
 use Rattle.search.specs.declared.side.Side.TheVariants.{Fore, Hind}
 use Rattle.search.specs.Layout.{via}
-use Rattle.search.specs.Marks.{marked, fresh, added}
-use Rattle.search.specs.MarkLaws.{Summed}
+use Rattle.memory.specs.PlaceSets.{marked, fresh, added}
+use Rattle.memory.specs.declared.place_set.TheConstants.{PLACES}
+use Rattle.memory.specs.PlaceSetLaws.{Summed}
 use Rattle.search.specs.Sides.{marks_of, other}
 use Rattle.search.specs.Hunt.{sees, entered, part_of}
 use Rattle.search.specs.Meaning.{slot_board, slot_on, part}
 use Rattle.search.specs.HuntLaws.{Hunting}
-use Rattle.search.proofs.Adding.{adding}
+use Rattle.memory.proofs.Adding.{adding}
 use Rattle.search.proofs.Frames.{only_added}
 use Rattle.search.proofs.Touching.{hunting_on, hunting_added, hunting_noted}
 use Rattle.search.proofs.Between.{origin, arc, comes, Setting, used_below, count_below, arc_tells, comes_on, part_tells}
@@ -60,7 +61,7 @@ module _ (m : List ℕ) (a b : ℕ) (S : Setting m a b) (was : ℕ → Link) (n 
 
   -- the place is new to both searches
   module _ (p : part m a b q ≡ true) (free : marked n (marks_of d) q ≡ false) (unseen : marked n (marks_of (other d)) q ≡ false) where
-    below : q < 8192
+    below : q < PLACES
     below = omega (arith, (part_tells m a b S q p).2, count_below m a b S)
 
     cells_other : (j : ℕ) → cell n' (marks_of (other d)) j ≡ cell n (marks_of (other d)) j
@@ -211,7 +212,7 @@ module _ (m : List ℕ) (a b : ℕ) (S : Setting m a b) (was : ℕ → Link) (n 
             rw i (stays_so (λ y. absurd (both_ways (w q) f y)))
         | inl y ↦
             let unseen : marked n (marks_of (other d)) q ≡ false = grind arith in
-            let l : q < 8192 = omega (arith, (part_tells m a b S q y).2, count_below m a b S) in
+            let l : q < PLACES = omega (arith, (part_tells m a b S q y).2, count_below m a b S) in
             let fr = (adding n (marks_of d) q (s.summed d) l).1 in
             elim (cases_Bool (marked n (marks_of d) q)) [
               | inl o ↦

@@ -2,9 +2,9 @@
 use Rattle.std.proofs.Common.{◌≡◌, ℕ, zero, suc, ◌+◌, ◌<◌, ◌≤◌, Bool, true, false, cond, not, eqb, List, [], ◌∷◌, map, length, sym, refl, ap, ◌∙◌, ap₂, inl, inr, arith}
 use Rattle.std.specs.List.{range_with_len}
 use Rattle.std.proofs.lemmas.Bool.{cases_Bool, eq-eqb, ne_eqb, eqb-true, both_ways, and_parts, not-true, or_parts, or_left, or_right}
-use Rattle.row.specs.Lists.{any, filter, has, distinct}
-use Rattle.row.proofs.Tabulated.{made_same}
-use Rattle.row.proofs.Refill.{refill, refill_skip}
+use Rattle.order.specs.Lists.{any, filter, has, distinct}
+use Rattle.order.proofs.Tabulated.{made_same}
+use Rattle.order.proofs.Refill.{refill, refill_skip}
 use Rattle.search.proofs.Listed.{in_filter}
 
 -- g with k at p

@@ -1,15 +1,15 @@
 -- The slots at the marked places are written to `chosen`, one after another.
 use Rattle.std.proofs.Common.{◌≡◌, ℕ, zero, suc, ◌+◌, ◌<◌, ◌≤◌, Bool, true, List, [], ◌∷◌, ◌++◌, map, length, Some, None, Option, sym, refl, ap, ◌∙◌, ap₂, add-zero, arith}
-use Rattle.row.specs.declared.column.Column.{Column}
-use Rattle.row.specs.Columns.{cell, written, apart}
+use Rattle.memory.specs.declared.column.Column.{Column}
+use Rattle.memory.specs.Columns.{cell, written, apart}
 use Rattle.row.specs.Layout.{slots}
-use Rattle.row.proofs.Cells.{length_written, cell_same, cell_other, cell_apart}
+use Rattle.memory.proofs.Cells.{length_written, cell_same, cell_other, cell_apart}
 use Rattle.search.specs.Layout.{chosen}
-use Rattle.search.specs.Marks.{marked, next_up, first_mark}
-use Rattle.search.specs.MarkLaws.{Summed}
+use Rattle.memory.specs.PlaceSets.{marked, next_up, first_mark}
+use Rattle.memory.specs.PlaceSetLaws.{Summed}
 use Rattle.search.specs.Settle.{gathered, gathers}
 use Rattle.search.proofs.Frames.{cells_alone}
-use Rattle.search.proofs.Upward.{going_up, first_of_all}
+use Rattle.memory.proofs.Upward.{going_up, first_of_all}
 use Rattle.search.proofs.Listed.{From, Lists, from_after, from_least, from_list}
 use Rattle.search.proofs.SettleSteps.{all}
 

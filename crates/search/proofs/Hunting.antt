@@ -1,6 +1,6 @@
 -- The steps of the loops of the search from both ends.
 use Rattle.std.proofs.Common.{◌≡◌, ℕ, ◌+◌, ◌-◌, ◌<◌, ◌≤◌, cond, ◌&&◌, List, None, Continue}
-use Rattle.row.proofs.Fuel.{fuel_step, fuel_end}
+use Rattle.memory.proofs.Fuel.{fuel_step, fuel_end}
 use Rattle.search.specs.declared.side.Side.{Side}
 use Rattle.search.specs.declared.hunt.Part.{Part}
 use Rattle.search.specs.declared.hunt.Front.{Front}

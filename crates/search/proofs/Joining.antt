@@ -4,8 +4,8 @@ use mathlib.Core.List.{reverse_aux}
 use Rattle.std.proofs.lemmas.Bool.{le-leb}
 use borrow.Rule.Slice.PartMut.{put_mid, post_of}
 use Rattle.std.proofs.lemmas.List.{append-nil, append_assoc, map-append, length-map, length-reverse, length-append, length-drop, take_at, take_all, drop_at, drop_all, drop-drop, drop-append-le, length-take-le, take-append-drop}
-use Rattle.row.specs.declared.board.Link.{Link}
-use Rattle.row.specs.Columns.{cell}
+use Rattle.order.specs.declared.board.Link.{Link}
+use Rattle.memory.specs.Columns.{cell}
 use Rattle.row.specs.Layout.{ids}
 use Rattle.search.specs.Layout.{via}
 use Rattle.search.specs.Way.{trail, way, shown}

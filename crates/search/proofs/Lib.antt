@@ -1,17 +1,4 @@
-pub mod Words
-pub mod Clearing
-pub mod Turning
-pub mod Toggling
-pub mod Adding
-pub mod Runs
-pub mod Near
-pub mod Upward
-pub mod Naming
-pub mod Downward
-pub mod Sweeps
-pub mod Wiping
 pub mod Frames
-pub mod Zeros
 pub mod Following
 pub mod Joining
 pub mod Rounds
@@ -39,3 +26,4 @@ pub mod Reordered
 pub mod RowPlaces
 pub mod SettleFrames
 pub mod RowSettled
+pub mod Fresh

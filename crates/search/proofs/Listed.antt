@@ -2,9 +2,9 @@
 use Rattle.std.proofs.Common.{◌≡◌, ℕ, zero, suc, ◌+◌, ◌<◌, ◌≤◌, min, Bool, true, false, ◌||◌, eqb, List, [], ◌∷◌, length, Some, None, Option, sym, refl, ap, ◌∙◌, inl, inr, arith}
 use Rattle.std.specs.List.{range_with_len}
 use Rattle.std.proofs.lemmas.Bool.{cases_Bool, cases_eq, cases_lt, cases_order, eqb-true, eq-eqb, both_ways, and_parts, and_from, or_left, or_right, or_from}
-use Rattle.row.specs.Lists.{any, filter, has, distinct}
-use Rattle.row.proofs.Filters.{has_filter, distinct_filter}
-use Rattle.search.specs.MarkLaws.{JustAfter, Least}
+use Rattle.order.specs.Lists.{any, filter, has, distinct}
+use Rattle.order.proofs.Filters.{has_filter, distinct_filter}
+use Rattle.memory.specs.PlaceSetLaws.{JustAfter, Least}
 use Rattle.search.specs.Settle.{sooner}
 
 -- o is the first number from p on that passes f, or there is none

@@ -1,18 +1,18 @@
 -- The two searches at their end: each has come to all that it should, or they have met.
 use Rattle.std.proofs.Common.{◌≡◌, ℕ, zero, suc, ◌≤◌, Bool, true, ◌&&◌, List, sym, ap, ◌∙◌, inl, inr, arith}
 use Rattle.std.proofs.lemmas.Bool.{cases_Bool, both_ways, and_parts, and_from}
-use Rattle.row.specs.declared.board.Link.{Link}
-use Rattle.row.specs.Board.{leads}
-use Rattle.row.specs.Columns.{cell}
+use Rattle.order.specs.declared.board.Link.{Link}
+use Rattle.order.specs.Board.{leads}
+use Rattle.memory.specs.Columns.{cell}
 use Rattle.row.specs.Layout.{places}
 use Rattle.row.specs.Meaning.{used}
-use Rattle.row.proofs.Ways.{Way}
-use Rattle.row.proofs.Climbs.{fine_parts, leads_way}
+use Rattle.order.proofs.Ways.{Way}
+use Rattle.order.proofs.Climbs.{fine_parts, leads_way}
 use Rattle.links.specs.Meaning.{edges}
 use Rattle.search.specs.declared.side.Side.{Side}
 use Rattle.search.specs.declared.side.Side.TheVariants.{Fore, Hind}
 use Rattle.search.specs.Layout.{fore, hind}
-use Rattle.search.specs.Marks.{marked}
+use Rattle.memory.specs.PlaceSets.{marked}
 use Rattle.search.specs.Sides.{marks_of, other, joined}
 use Rattle.search.specs.Meaning.{slot_board, slot_on, part, Parted, Trailed}
 use Rattle.search.proofs.Between.{arc, Setting, used_below, slot_on_used, arc_tells, comes_round, part_tells, part_from}

@@ -4,13 +4,13 @@ use Rattle.std.specs.List.{range_with_len}
 use Rattle.std.proofs.lemmas.List.{length-map}
 use Rattle.std.proofs.lemmas.List.FromFn.{take-map-range_with_len}
 use Rattle.std.proofs.lemmas.Bool.{cases_Bool, and_parts, and_from, eq-eqb, or_left, or_right}
-use Rattle.row.specs.Lists.{any, filter, has, distinct}
-use Rattle.row.proofs.Places.{has_append}
-use Rattle.row.proofs.Filters.{has_filter, distinct_filter}
-use Rattle.row.proofs.Tabulated.{made_same, made_has, has_made, distinct_made, drop_made, take_made}
-use Rattle.row.proofs.Parts.{with_part, row_in_parts}
-use Rattle.row.proofs.Refill.{refill}
-use Rattle.row.proofs.Refilled.{either, refilled, length_fills}
+use Rattle.order.specs.Lists.{any, filter, has, distinct}
+use Rattle.order.proofs.Places.{has_append}
+use Rattle.order.proofs.Filters.{has_filter, distinct_filter}
+use Rattle.order.proofs.Tabulated.{made_same, made_has, has_made, distinct_made, drop_made, take_made}
+use Rattle.order.proofs.Parts.{with_part, row_in_parts}
+use Rattle.order.proofs.Refill.{refill}
+use Rattle.order.proofs.Refilled.{either, refilled, length_fills}
 use Rattle.search.proofs.Listed.{in_filter, filter_has, filter_once}
 use Rattle.search.proofs.Exchanged.{exchanged, exchanged_out, exchanged_made}
 use Rattle.search.proofs.Seating.{Rearranges}

@@ -1,6 +1,6 @@
 -- Two places of the row have two slots.
 use Rattle.std.proofs.Common.{◌≡◌, ℕ, ◌<◌, List, sym, ap, ◌∙◌, arith}
-use Rattle.row.specs.Columns.{cell}
+use Rattle.memory.specs.Columns.{cell}
 use Rattle.row.specs.Layout.{slots, places, count}
 use Rattle.row.specs.Meaning.{Stands}
 

@@ -3,23 +3,23 @@ use Rattle.std.proofs.Common.{◌≡◌, ℕ, suc, ◌+◌, ◌-◌, ◌<◌, �
 use Rattle.std.specs.List.{range_with_len}
 use Rattle.std.proofs.lemmas.List.{length-map}
 use Rattle.std.proofs.lemmas.Bool.{le-leb, lt-leb, and_left, and_right}
-use Rattle.row.specs.declared.column.Column.{Column}
-use Rattle.row.specs.Lists.{filter, has, place}
-use Rattle.row.specs.Board.{Board, leads, keeps}
-use Rattle.row.specs.Commands.{with_link, firm}
-use Rattle.row.specs.Columns.{cell, apart}
+use Rattle.memory.specs.declared.column.Column.{Column}
+use Rattle.order.specs.Lists.{filter, has, place}
+use Rattle.order.specs.Board.{Board, leads, keeps}
+use Rattle.order.specs.Reordering.{with_link, firm}
+use Rattle.memory.specs.Columns.{cell, apart}
 use Rattle.row.specs.Layout.{tally, ids, chain, slots, places, count, fresh}
 use Rattle.row.specs.Meaning.{row_of, in_use, used, Standing, Stands}
-use Rattle.row.proofs.Tabulated.{made_same}
-use Rattle.row.proofs.Parts.{with_part}
-use Rattle.row.proofs.Refilled.{refilled}
-use Rattle.row.proofs.Climbs.{Fine, fine_parts}
-use Rattle.row.proofs.Allowed.{Open, sides_apart}
-use Rattle.row.proofs.Firm.{firm_row, firm_row_is, firm_is, firm_keeps}
+use Rattle.order.proofs.Tabulated.{made_same}
+use Rattle.order.proofs.Parts.{with_part}
+use Rattle.order.proofs.Refilled.{refilled}
+use Rattle.order.proofs.Climbs.{Fine, fine_parts}
+use Rattle.order.proofs.Allowed.{Open, sides_apart}
+use Rattle.order.proofs.Firm.{firm_row, firm_row_is, firm_is, firm_keeps}
 use Rattle.row.proofs.Present.{used_place}
 use Rattle.links.proofs.Sameness.{edges_alike, tabled_alike}
 use Rattle.search.specs.Layout.{fore, hind, chosen}
-use Rattle.search.specs.MarkLaws.{Summed}
+use Rattle.memory.specs.PlaceSetLaws.{Summed}
 use Rattle.search.specs.Meaning.{slot_board, slot_on, part, Ready, Parted}
 use Rattle.search.specs.Settle.{Gathered, gathers, both_first, dealt, forgotten, chose, settled}
 use Rattle.search.specs.SettleLaws.{Unmarked, Settled, Settles}
@@ -136,7 +136,7 @@ module _ (m m₁ : List ℕ) (a b : ℕ) (R : Ready m) (ua : used m a ≡ true) 
   few_n : n ≤ 8192
   few_n = omega (arith, hi_below, count_below)
 
-  long : 478496 ≤ length m₁
+  long : hind.base + hind.size ≤ length m₁
   long = P.hind_summed.lies
 
   hind_marks : Marking m₁ hind MA

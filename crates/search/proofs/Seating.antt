@@ -1,7 +1,7 @@
 -- Slots and places after an exchange: what stands, stands with the slots of some places in another order. Over any columns.
 use Rattle.std.proofs.Common.{◌≡◌, ℕ, ◌+◌, ◌<◌, Bool, true, false, ◌&&◌, eqb, ltb, List, length, sym, ap, ◌∙◌, ap₂, inl, inr, arith}
 use Rattle.std.proofs.lemmas.Bool.{cases_Bool, cases_lt, both_ways, lt-ltb, le-ltb}
-use Rattle.row.specs.Lists.{has, distinct}
+use Rattle.order.specs.Lists.{has, distinct}
 use Rattle.row.specs.Lookup.{bucket}
 use Rattle.row.specs.Meaning.{in_use, Chains, Standing}
 use Rattle.row.proofs.Chaining.{spells_move}

@@ -1,24 +1,29 @@
 -- What settling and forgetting leave as it was, whatever the memory.
-use Rattle.std.proofs.Common.{◌≡◌, ℕ, zero, suc, ◌+◌, ◌*◌, ◌/◌, ◌%◌, ◌^◌, ◌<◌, cond, eqb, ltb, List, Some, None, Option, refl, ◌∙◌, arith}
+use Rattle.std.proofs.Common.{◌≡◌, ℕ, zero, suc, ◌+◌, ◌-◌, ◌*◌, ◌/◌, ◌%◌, ◌^◌, ◌<◌, ◌≤◌, eqb, ltb, List, Some, None, Option, refl, ◌∙◌, arith}
 use lib.Count.{count_trailing_zeros}
 use Rattle.std.proofs.lemmas.Nat.{trailing_le}
 use Rattle.std.proofs.lemmas.Bool.{ltb-true, cond_both}
-use Rattle.row.specs.declared.column.Column.{Column}
-use Rattle.row.specs.Columns.{cell, written}
+use Rattle.memory.specs.declared.column.Column.{Column}
+use Rattle.memory.specs.Columns.{cell, written}
 use Rattle.row.specs.Layout.{tally, slots, places}
-use Rattle.row.specs.Lookup.{given}
-use Rattle.row.proofs.Cells.{length_written, cell_apart}
+use Rattle.memory.specs.Options.{given}
+use Rattle.memory.proofs.Cells.{length_written, cell_apart}
 use Rattle.links.specs.declared.chain.Chain.{Chain}
 use Rattle.links.specs.declared.chain.Chain.TheVariants.{Out, In, Pair}
 use Rattle.links.specs.Layout.{pointers, froms, tos}
 use Rattle.links.specs.Frames.{Alike}
 use Rattle.search.specs.Layout.{fore, hind, chosen}
-use Rattle.search.specs.Marks.{Within, or_else, next_bit, word_up, up_from, next_up, first_mark, wiped}
-use Rattle.search.specs.MarkLaws.{Summed}
+use Rattle.memory.specs.Options.{Within, or_else}
+use Rattle.memory.specs.declared.place_set.TheConstants.{PLACES}
+use Rattle.memory.specs.PlaceSets.{next_bit, tops_up, word_up, up_from, next_up, first_mark, wiped}
+use Rattle.memory.specs.PlaceSetLaws.{Summed}
 use Rattle.search.specs.Settle.{sooner, gathered, gathers, both_first, both_next, seated, dealt, forgotten, chose, settled}
 use Rattle.search.specs.SettleLaws.{Unmarked, OnlySets, OnlySettled, SettlesOnly, Forgets}
-use Rattle.search.proofs.Frames.{Small, small_written, small_cell, only_wiped, cells_alone}
-use Rattle.search.proofs.Wiping.{wiping}
+use Rattle.memory.specs.Footprints.{Small}
+use Rattle.memory.proofs.Cells.{small_written, small_cell}
+use Rattle.search.proofs.Frames.{only_wiped}
+use Rattle.search.proofs.Frames.{cells_alone}
+use Rattle.memory.proofs.Wiping.{wiping}
 
 -- forgetting
 pub only_forgotten : (m : List ℕ) → OnlySets m (forgotten m)
@@ -77,6 +82,13 @@ within_sooner n None z a b = b
 within_sooner n (Some p) None a b = a
 within_sooner n (Some p) (Some q) a b = omega arith
 
+-- how many words hold the places, and how many the summary
+abbrev words : ℕ
+words = PLACES / 64
+
+abbrev tops : ℕ
+tops = words / 64
+
 module _ (m : List ℕ) (c : Column) where
   next_bit_within : (s i n : ℕ) → i + 64 < n → Within n (next_bit m c s i)
   unfolding next_bit
@@ -86,29 +98,37 @@ module _ (m : List ℕ) (c : Column) where
       v : ℕ
       v = cell m c (s + i / 64) / 2 ^ (i % 64)
 
-  word_within : (w : ℕ) → Within 192 (word_up m c w)
+  tops_within : (f t : ℕ) → t + f ≤ tops → Within 320 (tops_up f m c t)
+  unfolding tops_up
+  tops_within zero t h = tt
+  tops_within (suc f) t h =
+      within_or 320 (next_bit m c words (t * 64)) (tops_up f m c (t + 1)) (next_bit_within words (t * 64) 320 (omega arith)) (tops_within f (t + 1) (omega arith))
+
+  word_within : (w : ℕ) → Within 320 (word_up m c w)
   unfolding word_up
   word_within w =
-      cond_both (ltb w 128) (or_else (next_bit m c 128 w) (cond (ltb w 64) (next_bit m c 128 64) None)) None (Within 192)
-      (λ e. within_or 192 (next_bit m c 128 w) (cond (ltb w 64) (next_bit m c 128 64) None) (next_bit_within 128 w 192 (let l = ltb-true w 128 e in omega arith))
-      (cond_both (ltb w 64) (next_bit m c 128 64) None (Within 192) (λ i. next_bit_within 128 64 192 (omega arith)) (λ i. tt))) (λ e. tt)
+      cond_both (ltb w words) (or_else (next_bit m c words w) (tops_up (tops - (w / 64 + 1)) m c (w / 64 + 1))) None (Within 320)
+      (λ e.
+      let l : w < words = ltb-true w words e in
+      within_or 320 (next_bit m c words w) (tops_up (tops - (w / 64 + 1)) m c (w / 64 + 1)) (next_bit_within words w 320 (omega arith))
+      (tops_within (tops - (w / 64 + 1)) (w / 64 + 1) (omega arith))) (λ e. tt)
 
-  up_within : (p : ℕ) → Within 16384 (up_from m c p)
+  up_within : (p : ℕ) → Within 32768 (up_from m c p)
   unfolding up_from
   up_within p =
-      cond_both (ltb p 8192) (or_else (next_bit m c 0 p) (given (word_up m c (p / 64 + 1)) None (λ w. next_bit m c 0 (w * 64)))) None (Within 16384)
-      (λ e. within_or 16384 (next_bit m c 0 p) (given (word_up m c (p / 64 + 1)) None (λ w. next_bit m c 0 (w * 64)))
-      (next_bit_within 0 p 16384 (let l = ltb-true p 8192 e in omega arith))
-      (within_given 16384 192 (word_up m c (p / 64 + 1)) (λ w. next_bit m c 0 (w * 64)) (word_within (p / 64 + 1))
-      (λ v h. next_bit_within 0 (v * 64) 16384 (omega arith)))) (λ e. tt)
+      cond_both (ltb p PLACES) (or_else (next_bit m c 0 p) (given (word_up m c (p / 64 + 1)) None (λ w. next_bit m c 0 (w * 64)))) None (Within 32768)
+      (λ e. within_or 32768 (next_bit m c 0 p) (given (word_up m c (p / 64 + 1)) None (λ w. next_bit m c 0 (w * 64)))
+      (next_bit_within 0 p 32768 (let l = ltb-true p PLACES e in omega arith))
+      (within_given 32768 320 (word_up m c (p / 64 + 1)) (λ w. next_bit m c 0 (w * 64)) (word_within (p / 64 + 1))
+      (λ v h. next_bit_within 0 (v * 64) 32768 (omega arith)))) (λ e. tt)
 
-  first_within : Within 16384 (first_mark m c)
+  first_within : Within 32768 (first_mark m c)
   unfolding first_mark
   first_within = up_within 0
 
-  next_within : (p : ℕ) → Within 16384 (next_up m c p)
+  next_within : (p : ℕ) → Within 32768 (next_up m c p)
   unfolding next_up
-  next_within p = cond_both (ltb p 8192) (up_from m c (p + 1)) None (Within 16384) (λ e. up_within (p + 1)) (λ e. tt)
+  next_within p = cond_both (ltb p PLACES) (up_from m c (p + 1)) None (Within 32768) (λ e. up_within (p + 1)) (λ e. tt)
 
 only_chosen : (m : List ℕ) (i v : ℕ) → (Small m → v < 2 ^ 64) → OnlySettled m (written m chosen i v)
 only_chosen m i v h = record {
@@ -126,7 +146,7 @@ only_gathered (suc f) m c (Some p) i =
     on m m₁ (gathered f m₁ c (next_up m₁ c p) (i + 1)).memory (only_chosen m i (cell m slots p) (λ s. small_cell m slots p s))
     (only_gathered f m₁ c (next_up m₁ c p) (i + 1))
 
-only_seated : (m : List ℕ) (p i : ℕ) → p < 16384 → OnlySettled m (seated m p i)
+only_seated : (m : List ℕ) (p i : ℕ) → p < 32768 → OnlySettled m (seated m p i)
 unfolding seated
 only_seated m p i h =
     let k = cell m chosen i in
@@ -136,15 +156,15 @@ only_seated m p i h =
       small = λ s. small_written (written m slots p k) places k p (omega arith) (small_written m slots p k (small_cell m chosen i s) s);
     }
 
-fits_next : (m : List ℕ) (p : ℕ) → Within 16384 (both_next m p)
+fits_next : (m : List ℕ) (p : ℕ) → Within 32768 (both_next m p)
 unfolding both_next
-fits_next m p = within_sooner 16384 (next_up m hind p) (next_up m fore p) (next_within m hind p) (next_within m fore p)
+fits_next m p = within_sooner 32768 (next_up m hind p) (next_up m fore p) (next_within m hind p) (next_within m fore p)
 
-fits_first : (m : List ℕ) → Within 16384 (both_first m)
+fits_first : (m : List ℕ) → Within 32768 (both_first m)
 unfolding both_first
-fits_first m = within_sooner 16384 (first_mark m hind) (first_mark m fore) (first_within m hind) (first_within m fore)
+fits_first m = within_sooner 32768 (first_mark m hind) (first_mark m fore) (first_within m hind) (first_within m fore)
 
-only_dealt : (f : ℕ) (m : List ℕ) (o : Option ℕ) (i : ℕ) → Within 16384 o → OnlySettled m (dealt f m o i)
+only_dealt : (f : ℕ) (m : List ℕ) (o : Option ℕ) (i : ℕ) → Within 32768 o → OnlySettled m (dealt f m o i)
 unfolding dealt
 only_dealt zero m o i h = same m
 only_dealt (suc f) m None i h = same m

@@ -1,12 +1,12 @@
 -- The steps of the loops that gather the slots and give them their places.
 use Rattle.std.proofs.Common.{◌≡◌, ℕ, ◌+◌, ◌-◌, ◌<◌, ◌≤◌, List, Option}
-use Rattle.row.specs.declared.column.Column.{Column}
-use Rattle.row.specs.Columns.{cell, written}
+use Rattle.memory.specs.declared.column.Column.{Column}
+use Rattle.memory.specs.Columns.{cell, written}
 use Rattle.row.specs.Layout.{slots}
-use Rattle.row.specs.Lookup.{given}
-use Rattle.row.proofs.Fuel.{fuel_step, fuel_end}
+use Rattle.memory.specs.Options.{given}
+use Rattle.memory.proofs.Fuel.{fuel_step, fuel_end}
 use Rattle.search.specs.Layout.{chosen}
-use Rattle.search.specs.Marks.{next_up}
+use Rattle.memory.specs.PlaceSets.{next_up}
 use Rattle.search.specs.Settle.{Gathered, gathered, both_next, seated, dealt}
 
 abbrev pub all : List ℕ → ℕ → Gathered

@@ -1,16 +1,15 @@
 -- What is shown after the two searches met is a way that goes round.
-use Rattle.std.proofs.Common.{◌≡◌, ℕ, ◌+◌, ◌-◌, ◌<◌, true, List, [], ◌∷◌, map, length, refl, ◌∙◌, arith}
+use Rattle.std.proofs.Common.{◌≡◌, ℕ, ◌-◌, ◌<◌, true, List, [], ◌∷◌, map, length, refl, ◌∙◌, arith}
 use mathlib.Core.List.{reverse_aux-eq}
-use Rattle.row.specs.declared.board.Link.{Link}
-use Rattle.row.specs.Board.{◌⟶◌, linked}
-use Rattle.row.specs.Columns.{cell}
+use Rattle.order.specs.Board.{◌⟶◌, linked}
+use Rattle.memory.specs.Columns.{cell}
 use Rattle.row.specs.Layout.{ids, places, count}
 use Rattle.row.specs.Meaning.{used}
-use Rattle.row.proofs.Climbs.{fine_parts, link_before}
+use Rattle.order.proofs.Climbs.{fine_parts, link_before}
 use Rattle.row.proofs.Present.{used_place}
 use Rattle.row.proofs.Named.{place_slot}
 use Rattle.search.specs.Layout.{fore, hind, via}
-use Rattle.search.specs.Marks.{marked}
+use Rattle.memory.specs.PlaceSets.{marked}
 use Rattle.search.specs.Meaning.{slot_board, Ready, Trailed}
 use Rattle.search.specs.Way.{trail, way}
 use Rattle.search.specs.WayLaws.{way_of, ShowsWay}

@@ -1,8 +1,8 @@
 -- What is so of the memory at each moment of a search, and what a search changes as it goes on.
 use Rattle.std.proofs.Common.{◌≡◌, ℕ, true, ◌⊎◌, List, length, sym, refl, ◌∙◌, inl, inr, arith}
-use Rattle.row.specs.declared.board.Link.{Link}
-use Rattle.row.specs.declared.column.Column.{Column}
-use Rattle.row.specs.Columns.{cell}
+use Rattle.order.specs.declared.board.Link.{Link}
+use Rattle.memory.specs.declared.column.Column.{Column}
+use Rattle.memory.specs.Columns.{cell}
 use Rattle.row.specs.Layout.{tally, places}
 use Rattle.row.specs.Meaning.{used}
 use Rattle.links.specs.Layout.{pointers, froms, tos}
@@ -13,8 +13,9 @@ use Rattle.links.proofs.Sameness.{aside_parts, edges_alike}
 use Rattle.search.specs.declared.side.Side.{Side}
 use Rattle.search.specs.declared.side.Side.TheVariants.{Fore, Hind}
 use Rattle.search.specs.Layout.{via}
-use Rattle.search.specs.Marks.{marked}
-use Rattle.search.specs.MarkLaws.{Summed, Only}
+use Rattle.memory.specs.PlaceSets.{marked}
+use Rattle.memory.specs.PlaceSetLaws.{Summed}
+use Rattle.search.specs.SetLaws.{Only}
 use Rattle.search.specs.Sides.{marks_of, other}
 use Rattle.search.specs.Meaning.{slot_board, slot_on, part, Kept}
 use Rattle.search.specs.HuntLaws.{Hunting}

@@ -1,10 +1,10 @@
 -- A search goes through the chain of one slot: it comes to all that the slot is linked to, or it meets the other search.
 use Rattle.std.proofs.Common.{◌≡◌, ℕ, zero, suc, ◌+◌, ◌-◌, ◌<◌, ◌≤◌, Bool, true, false, List, Continue, Break, ControlFlow, sym, refl, ap, ◌∙◌, inl, inr, arith}
 use Rattle.std.proofs.lemmas.Bool.{cases_Bool, and_parts}
-use Rattle.row.specs.declared.board.Link.{Link}
-use Rattle.row.specs.Lists.{has}
-use Rattle.row.specs.Board.{◌⟶◌}
-use Rattle.row.specs.Columns.{cell, apart}
+use Rattle.order.specs.declared.board.Link.{Link}
+use Rattle.order.specs.Lists.{has}
+use Rattle.order.specs.Board.{◌⟶◌}
+use Rattle.memory.specs.Columns.{cell, apart}
 use Rattle.row.specs.Layout.{places}
 use Rattle.row.specs.Meaning.{used}
 use Rattle.links.specs.declared.chain.Chain.{Chain}
@@ -21,7 +21,7 @@ use Rattle.search.specs.declared.side.Side.{Side}
 use Rattle.search.specs.declared.side.Side.TheVariants.{Fore, Hind}
 use Rattle.search.specs.declared.hunt.Part.{Part}
 use Rattle.search.specs.Layout.{via}
-use Rattle.search.specs.Marks.{marked}
+use Rattle.memory.specs.PlaceSets.{marked}
 use Rattle.search.specs.Sides.{chain_of, marks_of, other, far_end}
 use Rattle.search.specs.Hunt.{sees, entered, taken, Spreading, spreading, part_of}
 use Rattle.search.specs.Meaning.{slot_board, part}

@@ -1,9 +1,9 @@
 -- The two searches at their start, and what they find.
 use Rattle.std.proofs.Common.{◌≡◌, ℕ, ◌<◌, ◌≤◌, Bool, true, ◌||◌, eqb, List, Some, sym, refl, ap, ◌∙◌, inl, arith}
 use Rattle.std.proofs.lemmas.Bool.{both_ways, eq-eqb, eqb-true}
-use Rattle.row.specs.declared.board.Link.{Link}
-use Rattle.row.specs.Board.{◌⟶◌}
-use Rattle.row.specs.Columns.{cell}
+use Rattle.order.specs.declared.board.Link.{Link}
+use Rattle.order.specs.Board.{◌⟶◌}
+use Rattle.memory.specs.Columns.{cell}
 use Rattle.row.specs.Layout.{places, slots}
 use Rattle.row.specs.Meaning.{used}
 use Rattle.links.specs.Layout.{end}
@@ -13,12 +13,12 @@ use Rattle.links.proofs.Sameness.{alike_trans, holds_alike}
 use Rattle.search.specs.declared.side.Side.{Side}
 use Rattle.search.specs.declared.side.Side.TheVariants.{Fore, Hind}
 use Rattle.search.specs.Layout.{fore, hind}
-use Rattle.search.specs.Marks.{marked, added}
-use Rattle.search.specs.MarkLaws.{Summed}
+use Rattle.memory.specs.PlaceSets.{marked, added}
+use Rattle.memory.specs.PlaceSetLaws.{Summed}
 use Rattle.search.specs.Sides.{chain_of, marks_of, other}
 use Rattle.search.specs.Hunt.{front, started, meeting}
 use Rattle.search.specs.HuntLaws.{Meets}
-use Rattle.search.proofs.Adding.{adding}
+use Rattle.memory.proofs.Adding.{adding}
 use Rattle.search.proofs.Frames.{only_added}
 use Rattle.search.proofs.Touching.{hunting_started}
 use Rattle.search.proofs.Potential.{weight_all}
@@ -61,14 +61,14 @@ module _ (m : List ℕ) (a b : ℕ) (S : Setting m a b) where
 
   marks_are : (d : Side) (q : ℕ) → marked n (marks_of d) q ≡ eqb q (cell m places (origin a b d))
   marks_are Fore q =
-      marked_same n₁ n fore fore_cells q ∙ (adding m fore pb S.ready.fore_summed below_b).2 q
+      marked_same n₁ n fore fore_cells q ∙ (adding m fore pb S.ready.fore_summed (omega (arith, below_b))).2 q
       ∙ ap (λ (t : Bool). eqb q pb || t) (S.ready.fore_none q) ∙ grind arith
   marks_are Hind q =
-      (adding n₁ hind pa hind_summed below_a).2 q ∙ ap (λ (t : Bool). eqb q pa || t) (marked_same m n₁ hind hind_cells q ∙ S.ready.hind_none q) ∙ grind arith
+      (adding n₁ hind pa hind_summed (omega (arith, below_a))).2 q ∙ ap (λ (t : Bool). eqb q pa || t) (marked_same m n₁ hind hind_cells q ∙ S.ready.hind_none q) ∙ grind arith
 
   summed_both : (d : Side) → Summed n (marks_of d)
-  summed_both Fore = summed_same n₁ n fore fore_cells (only_added n₁ hind pa).long (adding m fore pb S.ready.fore_summed below_b).0
-  summed_both Hind = (adding n₁ hind pa hind_summed below_a).0
+  summed_both Fore = summed_same n₁ n fore fore_cells (only_added n₁ hind pa).long (adding m fore pb S.ready.fore_summed (omega (arith, below_b))).0
+  summed_both Hind = (adding n₁ hind pa hind_summed (omega (arith, below_a))).0
 
   is_origin : (d : Side) (q : ℕ) → marked n (marks_of d) q ≡ true → q ≡ cell m places (origin a b d)
   is_origin d q h = eqb-true q (cell m places (origin a b d)) (sym (marks_are d q) ∙ h)

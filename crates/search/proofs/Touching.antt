@@ -1,29 +1,31 @@
 -- What a search leaves as it was, whatever stands in the memory.
 use Rattle.std.proofs.Common.{◌≡◌, ℕ, zero, suc, ◌+◌, ◌^◌, ◌<◌, true, cond, not, ◌&&◌, List, Some, None, Option, refl, Continue, Break, ControlFlow, ◌∙◌}
 use Rattle.std.proofs.lemmas.Bool.{and_parts, cond_both}
-use Rattle.row.specs.declared.board.Link.{Link}
-use Rattle.row.specs.declared.column.Column.{Column}
-use Rattle.row.specs.Columns.{cell, written, apart}
+use Rattle.order.specs.declared.board.Link.{Link}
+use Rattle.memory.specs.declared.column.Column.{Column}
+use Rattle.memory.specs.Columns.{cell, written, apart}
 use Rattle.row.specs.Layout.{slots, places}
-use Rattle.row.specs.Lookup.{given}
+use Rattle.memory.specs.Options.{given}
 use Rattle.links.specs.declared.chain.Chain.{Chain}
 use Rattle.links.specs.declared.chain.Chain.TheVariants.{Out, In}
 use Rattle.links.specs.declared.chain.Meeting.{Meeting}
 use Rattle.links.specs.declared.chain.Meeting.TheVariants.{End, Dead, Living}
 use Rattle.links.specs.Layout.{pointers, heads}
 use Rattle.links.specs.Chains.{dead, followed, met, stepped}
-use Rattle.row.proofs.Cells.{length_written, cell_apart}
+use Rattle.memory.proofs.Cells.{length_written, cell_apart}
 use Rattle.search.specs.declared.side.Side.{Side}
 use Rattle.search.specs.declared.side.Side.TheVariants.{Fore, Hind}
 use Rattle.search.specs.declared.hunt.Part.{Part}
 use Rattle.search.specs.declared.hunt.Front.{Front}
 use Rattle.search.specs.Layout.{fore, via}
-use Rattle.search.specs.Marks.{fresh, added}
-use Rattle.search.specs.MarkLaws.{Only}
+use Rattle.memory.specs.PlaceSets.{fresh, added}
+use Rattle.search.specs.SetLaws.{Only}
 use Rattle.search.specs.Sides.{chain_of, marks_of, far_end}
 use Rattle.search.specs.Hunt.{inside, sees, entered, left_by, taken, Spreading, spread_on, spreading, Going, moved, gone_on, idle, Met, met_with, hunt_on, hunted, meeting, started, part_of, front}
 use Rattle.search.specs.HuntLaws.{untouched, Hunting, MeetsOnly}
-use Rattle.search.proofs.Frames.{Small, small_cell, only_written, only_added}
+use Rattle.memory.specs.Footprints.{Small}
+use Rattle.memory.proofs.Cells.{small_cell}
+use Rattle.search.proofs.Frames.{only_written, only_added}
 
 pub record Untouched (c : Column) : Type 0 where
   pub chains : (d : Side) → apart (pointers (chain_of d)) c ≡ true

@@ -29,10 +29,10 @@
 use Rattle.std.specs.Prelude.{ℕ, zero, suc, Bool, true, false, cond, not, ◌&&◌, List, Some, None, Option, nat_le}
 use Rattle.std.specs.declared.ops.ControlFlow.{ControlFlow}
 use Rattle.std.specs.declared.ops.ControlFlow.TheVariants.{Continue, Break}
-use Rattle.row.specs.declared.board.Link.{Link}
-use Rattle.row.specs.Columns.{cell, written}
+use Rattle.order.specs.declared.board.Link.{Link}
+use Rattle.memory.specs.Columns.{cell, written}
 use Rattle.row.specs.Layout.{slots, places}
-use Rattle.row.specs.Lookup.{given}
+use Rattle.memory.specs.Options.{given}
 use Rattle.links.specs.declared.chain.Meeting.{Meeting}
 use Rattle.links.specs.declared.chain.Meeting.TheVariants.{End, Dead, Living}
 use Rattle.links.specs.Chains.{met, stepped}
@@ -41,7 +41,7 @@ use Rattle.search.specs.declared.side.Side.TheVariants.{Fore, Hind}
 use Rattle.search.specs.declared.hunt.Part.{Part}
 use Rattle.search.specs.declared.hunt.Front.{Front}
 use Rattle.search.specs.Layout.{fore, hind, via}
-use Rattle.search.specs.Marks.{marked, fresh, added}
+use Rattle.memory.specs.PlaceSets.{marked, fresh, added}
 use Rattle.search.specs.Sides.{chain_of, marks_of, other, far_end, ahead, joined}
 
 abbrev pub inside : Part → ℕ → Bool

@@ -8,10 +8,10 @@
 --                  searches met, with a way there from the one end and on to the other
 --   MeetsOnly      whatever stands in the memory, a search changes no other columns
 use Rattle.std.specs.Prelude.{◌≡◌, ℕ, ◌^◌, ◌<◌, Bool, true, ◌&&◌, List, length, Some, None, Option, slice_index}
-use Rattle.row.specs.declared.board.Link.{Link}
-use Rattle.row.specs.declared.column.Column.{Column}
-use Rattle.row.specs.Board.{◌⟶◌}
-use Rattle.row.specs.Columns.{cell, apart}
+use Rattle.order.specs.declared.board.Link.{Link}
+use Rattle.memory.specs.declared.column.Column.{Column}
+use Rattle.order.specs.Board.{◌⟶◌}
+use Rattle.memory.specs.Columns.{cell, apart}
 use Rattle.row.specs.Layout.{places}
 use Rattle.row.specs.Meaning.{used}
 use Rattle.links.specs.declared.chain.Chain.TheVariants.{Out, In}

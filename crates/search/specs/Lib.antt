@@ -1,6 +1,5 @@
 pub mod Layout
-pub mod Marks
-pub mod MarkLaws
+pub mod SetLaws
 pub mod Meaning
 pub mod Way
 pub mod WayLaws

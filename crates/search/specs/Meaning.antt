@@ -10,14 +10,14 @@
 --   Trailed m m' a b x t   the two searches met at the link from x to t: what was come to from b and what leads to a, each with the next on its way back
 --                       to b, or on to a, in the column `via`
 use Rattle.std.specs.Prelude.{◌≡◌, ℕ, ◌+◌, ◌≤◌, Bool, true, false, ◌&&◌, ◌⊎◌, List, length, nat_le}
-use Rattle.row.specs.Board.{Board, fine, leads, linked}
-use Rattle.row.specs.Columns.{cell}
+use Rattle.order.specs.Board.{Board, fine, leads, linked}
+use Rattle.memory.specs.Columns.{cell}
 use Rattle.row.specs.Layout.{tally, ids, chain, slots, places}
 use Rattle.row.specs.Meaning.{row_of, used, Stands}
 use Rattle.links.specs.Meaning.{edges, Tabled}
 use Rattle.search.specs.Layout.{fore, hind, via}
-use Rattle.search.specs.Marks.{marked}
-use Rattle.search.specs.MarkLaws.{Summed}
+use Rattle.memory.specs.PlaceSets.{marked}
+use Rattle.memory.specs.PlaceSetLaws.{Summed}
 
 abbrev pub slot_board : List ℕ → Board
 slot_board m = record { row = row_of m; links = edges m }

@@ -12,13 +12,13 @@
 --   forgotten m          both sets wiped
 --   settled m            the places of both sets given to the slots that stand at the hind ones, and then to those at the fore ones
 use Rattle.std.specs.Prelude.{ℕ, zero, suc, ◌+◌, min, List, Some, None, Option}
-use Rattle.row.specs.declared.column.Column.{Column}
-use Rattle.row.specs.Columns.{cell, written}
+use Rattle.memory.specs.declared.column.Column.{Column}
+use Rattle.memory.specs.Columns.{cell, written}
 use Rattle.row.specs.Layout.{slots}
-use Rattle.row.specs.Lookup.{given}
+use Rattle.memory.specs.Options.{given}
 use Rattle.row.specs.Moves.{seated_in}
 use Rattle.search.specs.Layout.{fore, hind, chosen}
-use Rattle.search.specs.Marks.{next_up, first_mark, wiped}
+use Rattle.memory.specs.PlaceSets.{next_up, first_mark, wiped}
 
 abbrev pub sooner : Option ℕ → Option ℕ → Option ℕ
 sooner None q = q

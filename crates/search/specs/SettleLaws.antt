@@ -10,17 +10,17 @@
 --   SettlesOnly        settling changes nothing else, whatever the memory
 --   Forgets            forgetting leaves no place marked, and changes nothing else
 use Rattle.std.specs.Prelude.{◌≡◌, ℕ, ◌^◌, ◌<◌, true, false, List, length, slice_index}
-use Rattle.row.specs.declared.column.Column.{Column}
-use Rattle.row.specs.Lists.{place}
-use Rattle.row.specs.Board.{keeps}
-use Rattle.row.specs.Commands.{with_link, firm}
-use Rattle.row.specs.Columns.{cell, apart}
+use Rattle.memory.specs.declared.column.Column.{Column}
+use Rattle.order.specs.Lists.{place}
+use Rattle.order.specs.Board.{keeps}
+use Rattle.order.specs.Reordering.{with_link, firm}
+use Rattle.memory.specs.Columns.{cell, apart}
 use Rattle.row.specs.Layout.{tally, ids, chain, slots, places}
 use Rattle.row.specs.Meaning.{row_of, used, Stands}
 use Rattle.links.specs.Meaning.{edges, Tabled}
 use Rattle.search.specs.Layout.{fore, hind, chosen}
-use Rattle.search.specs.Marks.{marked}
-use Rattle.search.specs.MarkLaws.{Summed}
+use Rattle.memory.specs.PlaceSets.{marked}
+use Rattle.memory.specs.PlaceSetLaws.{Summed}
 use Rattle.search.specs.Meaning.{slot_board, Ready, Parted}
 use Rattle.search.specs.Settle.{forgotten, settled}
 

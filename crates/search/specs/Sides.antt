@@ -7,17 +7,17 @@
 --   ahead m d p      the next place that is marked, in its direction
 --   joined d x t     the link by which it comes from x to t
 use Rattle.std.specs.Prelude.{ℕ, List, Option}
-use Rattle.row.specs.declared.board.Link.{Link}
-use Rattle.row.specs.declared.column.Column.{Column}
-use Rattle.row.specs.Board.{◌⟶◌}
-use Rattle.row.specs.Columns.{cell}
+use Rattle.order.specs.declared.board.Link.{Link}
+use Rattle.memory.specs.declared.column.Column.{Column}
+use Rattle.order.specs.Board.{◌⟶◌}
+use Rattle.memory.specs.Columns.{cell}
 use Rattle.links.specs.declared.chain.Chain.{Chain}
 use Rattle.links.specs.declared.chain.Chain.TheVariants.{Out, In}
 use Rattle.links.specs.Layout.{froms, tos}
 use Rattle.search.specs.declared.side.Side.{Side}
 use Rattle.search.specs.declared.side.Side.TheVariants.{Fore, Hind}
 use Rattle.search.specs.Layout.{fore, hind}
-use Rattle.search.specs.Marks.{next_up, next_down}
+use Rattle.memory.specs.PlaceSets.{next_up, next_down}
 
 abbrev pub chain_of : Side → Chain
 chain_of Fore = Out

@@ -6,8 +6,8 @@
 --   shown m l j out     the numbers of the cards of the way, at most 8,192; none if `out` hasn't room for so many
 --   ShownSo ks out      what is shown is the cards ks: how many they are, and the output, whose front they were written to
 use Rattle.std.specs.Prelude.{◌≡◌, ℕ, zero, suc, ◌-◌, cond, List, [], ◌∷◌, ◌++◌, map, reverse, length, drop, ◌==◌, nat_le}
-use Rattle.row.specs.declared.board.Link.{Link}
-use Rattle.row.specs.Columns.{cell}
+use Rattle.order.specs.declared.board.Link.{Link}
+use Rattle.memory.specs.Columns.{cell}
 use Rattle.row.specs.Layout.{ids}
 use Rattle.search.specs.Layout.{via}
 

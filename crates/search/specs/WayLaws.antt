@@ -5,10 +5,10 @@
 --                            is a card's; what is shown are the numbers of its cards, and they are at most 8,192
 --   ShowsWay                 if the two searches met at a link, that is so of it
 use Rattle.std.specs.Prelude.{◌≡◌, ℕ, ◌≤◌, true, List, map, length}
-use Rattle.row.specs.Lists.{every}
-use Rattle.row.specs.Board.{◌⟶◌}
-use Rattle.row.specs.Commands.{goes_round}
-use Rattle.row.specs.Columns.{cell}
+use Rattle.order.specs.Lists.{every}
+use Rattle.order.specs.Board.{◌⟶◌}
+use Rattle.order.specs.Reordering.{goes_round}
+use Rattle.memory.specs.Columns.{cell}
 use Rattle.row.specs.Layout.{ids}
 use Rattle.row.specs.Meaning.{used}
 use Rattle.search.specs.Layout.{via}

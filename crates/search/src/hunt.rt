@@ -8,7 +8,9 @@ ghost use Rattle.search.specs.Hunt.{inside, sees, entered, taken, spreading, gon
 use crate::layout::VIA;
 use crate::side::Side;
 use links::{ENTRIES, Meeting, take_step};
-use row::{CARDS, Link, PLACES, SLOTS};
+use memory::Memory;
+use order::{CARDS, Link};
+use row::{PLACES, SLOTS};
 use std::mem::replace;
 use std::ops::ControlFlow;
 
@@ -44,7 +46,7 @@ struct Search {
 impl Search {
     // Whether the slot lies in the part and the other search has come to it.
     #[tactic(auto, unfolding(crate::specs::Hunt::sees))]
-    fn sees(self, memory: &[u64], slot: u64) -> bool
+    fn sees(self, memory: &Memory, slot: u64) -> bool
         ensures { result ≡ sees memory.now self.side self.part slot }
     {
         let place = PLACES.get(memory, slot);
@@ -52,8 +54,8 @@ impl Search {
     }
 
     // Comes from one slot to another, unless that lies outside the part or the other search has come to it; says whether this has.
-    #[tactic(auto, unfolding(crate::specs::Hunt::entered, crate::specs::Marks::added))]
-    fn enter(self, memory: &mut [u64], from: u64, to: u64) -> bool
+    #[tactic(auto, unfolding(crate::specs::Hunt::entered, memory::specs::PlaceSets::added))]
+    fn enter(self, memory: &mut Memory, from: u64, to: u64) -> bool
         ensures is { result ≡ sees memory.old self.side self.part to }
         ensures after { memory.new ≡ entered memory.old self.side self.part from to }
     {
@@ -70,7 +72,12 @@ impl Search {
     // One turn of a walk through the chain of a slot. It ends with the slot at which the other search was met, or with none at the end of the chain; else
     // it tells the pointer at which the walk goes on.
     #[tactic(auto, unfolding(crate::specs::Hunt::taken))]
-    fn take_turn(self, memory: &mut [u64], slot: u64, pointer: u64) -> ControlFlow<Option<u64>, u64>
+    fn take_turn(
+        self,
+        memory: &mut Memory,
+        slot: u64,
+        pointer: u64,
+    ) -> ControlFlow<Option<u64>, u64>
         ensures is { result ≡ (taken memory.old self.side self.part slot pointer).turn }
         ensures after { memory.new ≡ (taken memory.old self.side self.part slot pointer).memory }
     {
@@ -91,7 +98,7 @@ impl Search {
     // Comes to all that a slot is linked to, and tells what is left of the fuel; it ends with the slot at which the other search is met, if it is. A garbage
     // memory may go round, so the fuel counts the turns.
     #[tactic(auto, using(crate::proofs::Hunting::spreads))]
-    fn spread_from(self, memory: &mut [u64], slot: u64, fuel: u64) -> ControlFlow<u64, u64>
+    fn spread_from(self, memory: &mut Memory, slot: u64, fuel: u64) -> ControlFlow<u64, u64>
         ensures is { result ≡ (spreading fuel memory.old self.side self.part slot slot).spread }
         ensures after { memory.new ≡ (spreading fuel memory.old self.side self.part slot slot).memory }
     {
@@ -136,7 +143,7 @@ impl Front {
 
     // Goes on from the card at the cursor, if there is one, and tells where the search stands then; it ends with the link at which it met the other.
     #[tactic(auto, unfolding(crate::specs::Hunt::gone_on))]
-    fn go_on(self, memory: &mut [u64], part: Part) -> ControlFlow<Link, Front>
+    fn go_on(self, memory: &mut Memory, part: Part) -> ControlFlow<Link, Front>
         ensures is { result ≡ (gone_on memory.old part self).advance }
         ensures after { memory.new ≡ (gone_on memory.old part self).memory }
     {
@@ -162,7 +169,7 @@ impl Front {
 
 // Two searches in turn, until they meet or neither has anything to go on from. The part stands beside them, since it's one for both.
 #[tactic(auto, using(crate::proofs::Hunting::hunts))]
-fn hunt(memory: &mut [u64], part: Part, mut near: Front, mut far: Front) -> Option<Link>
+fn hunt(memory: &mut Memory, part: Part, mut near: Front, mut far: Front) -> Option<Link>
     ensures is { result ≡ (hunted 16384 memory.old part near far).answer }
     ensures after { memory.new ≡ (hunted 16384 memory.old part near far).memory }
 {
@@ -181,7 +188,7 @@ fn hunt(memory: &mut [u64], part: Part, mut near: Front, mut far: Front) -> Opti
 // For a link between slots that goes backward: whether links lead from its second end to its first. Says a link at which the searches from both ends
 // met; none if they went to their ends.
 #[tactic(auto, unfolding(crate::specs::Hunt::meeting))]
-pub fn meet(memory: &mut [u64], link: Link) -> Option<Link>
+pub fn meet(memory: &mut Memory, link: Link) -> Option<Link>
     ensures is { result ≡ (meeting memory.old link).answer }
     ensures after { memory.new ≡ (meeting memory.old link).memory }
 {

@@ -1,20 +1,20 @@
 // Where the columns of this crate lie in the lent memory, behind those of `links`.
-use crate::marks::Marks;
-use row::{CARDS, Column};
+use memory::{Column, PlaceSet, SET_WORDS};
+use order::CARDS;
 
 // The places that a search forward has come to.
-pub const FORE: Marks = Marks {
+pub const FORE: PlaceSet = PlaceSet {
     column: Column {
         base: 478040,
-        size: 192,
+        size: SET_WORDS,
     },
 };
 
 // The places that a search backward has come to.
-pub const HIND: Marks = Marks {
+pub const HIND: PlaceSet = PlaceSet {
     column: Column {
         base: 478304,
-        size: 192,
+        size: SET_WORDS,
     },
 };
 

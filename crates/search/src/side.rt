@@ -3,9 +3,9 @@ ghost use Rattle.std.specs.Prelude.{◌≡◌};
 ghost use Rattle.search.specs.Sides.{chain_of, marks_of, other, far_end, ahead, joined};
 
 use crate::layout::{FORE, HIND};
-use crate::marks::Marks;
 use links::{Chain, from_of, to_of};
-use row::Link;
+use memory::{Memory, PlaceSet};
+use order::Link;
 
 // An enum, and not a trait with a type for each: the searches take turns in one loop, where each comes to stand in the other's place.
 #[derive(Clone, Copy)]
@@ -26,7 +26,7 @@ impl Side {
     }
 
     // The places that it has come to.
-    pub(crate) fn marks(self) -> Marks
+    pub(crate) fn marks(self) -> PlaceSet
         ensures { result.column ≡ marks_of self }
     {
         match self {
@@ -45,7 +45,7 @@ impl Side {
     }
 
     // The slot that an entry's link leads it to.
-    pub(crate) fn far_end(self, memory: &[u64], entry: u64) -> u64
+    pub(crate) fn far_end(self, memory: &Memory, entry: u64) -> u64
         ensures { result ≡ far_end memory.now self entry }
     {
         match self {
@@ -55,7 +55,7 @@ impl Side {
     }
 
     // The next place that it has come to: to the right forward, to the left backward.
-    pub(crate) fn next(self, memory: &[u64], place: u64) -> Option<u64>
+    pub(crate) fn next(self, memory: &Memory, place: u64) -> Option<u64>
         ensures { result ≡ ahead memory.now self place }
     {
         match self {

@@ -1,4 +1,4 @@
-use Rattle.search.proofs.Zeros.{columns_apart}
+use Rattle.search.proofs.Fresh.{columns_apart}
 use Rattle.search.proofs.theory.columns_apart_stands.Goals as goal
 
 pub returns : goal.returns

@@ -1,4 +1,4 @@
-use Rattle.search.proofs.Zeros.{fresh_memory}
+use Rattle.search.proofs.Fresh.{fresh_memory}
 use Rattle.search.proofs.theory.fresh_memory_stands.Goals as goal
 
 pub returns : goal.returns

@@ -1,4 +1,4 @@
-use Rattle.row.specs.Columns.{cell}
+use Rattle.memory.specs.Columns.{cell}
 use Rattle.row.specs.Layout.{ids}
 use Rattle.search.proofs.Following.{Walked}
 use Rattle.search.proofs.way.show_trail.Given as goal

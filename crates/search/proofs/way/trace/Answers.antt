@@ -1,5 +1,5 @@
 use Rattle.std.proofs.Common.{ℕ}
-use Rattle.row.specs.Columns.{cell}
+use Rattle.memory.specs.Columns.{cell}
 use Rattle.search.specs.Layout.{via}
 use Rattle.search.specs.Way.{trail, way}
 use Rattle.search.proofs.Joining.{turned_front, joined, joined_length}
