@@ -5,10 +5,6 @@ use Rattle.order.specs.declared.board.Link.{Link}
 use Rattle.memory.specs.Columns.{cell}
 use Rattle.memory.specs.Footprints.{Writes}
 use Rattle.row.specs.declared.layout.TheConstants.{IDS, SLOTS, SEATS}
-use Rattle.row.specs.Moves.{came, gone}
-use Rattle.row.specs.Telling.{told, told_count}
-use Rattle.row.specs.Laws.{Comes, Goes, Tells}
-use Rattle.row.specs.Theory.{Depends, SlotsNamed, Begins}
 use Rattle.search.specs.declared.layout.TheConstants.{VIA, CHOSEN, FORE, HIND}
 use Rattle.search.specs.Columns.{searched, sets}
 use Rattle.search.specs.Hunt.{meeting}
@@ -18,24 +14,6 @@ use Rattle.search.specs.SettleLaws.{Settles, Unmarked}
 use Rattle.search.specs.Way.{way, shown}
 use Rattle.search.specs.WayLaws.{ShowsWay}
 use Rattle.memory.specs.PlaceSetLaws.{Summed}
-
-pub comes_law : (m : List ℕ) (k : ℕ) → Comes m k (came m k).answer (came m k).memory
-comes_law m k = ?
-
-pub goes_law : (m : List ℕ) (k : ℕ) → Goes m k (gone m k).answer (gone m k).memory
-goes_law m k = ?
-
-pub tells_law : (m : List ℕ) (p n : ℕ) (o : List ℕ) → Tells m p n o (told_count m p n o) (told m p n o)
-tells_law m p n o = ?
-
-pub depends : Depends
-depends = ?
-
-pub slots_named : SlotsNamed
-slots_named = ?
-
-pub begins : Begins
-begins = ?
 
 pub meets : Meets
 meets = ?

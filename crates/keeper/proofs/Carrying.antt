@@ -15,6 +15,7 @@ use Rattle.row.specs.declared.layout.TheConstants.{IDS}
 use Rattle.row.specs.Columns.{columns as row_columns}
 use Rattle.row.specs.Meaning.{row_of, IsRow}
 use Rattle.row.specs.Theory.{SameRow}
+use Rattle.row.proofs.Depending.{depends}
 use Rattle.links.specs.Table.{columns as link_columns, edges, IsTable, once}
 use Rattle.links.proofs.Keeping.{table_kept, edges_kept}
 use Rattle.search.specs.declared.layout.TheConstants.{FORE, HIND}
@@ -25,7 +26,6 @@ use Rattle.keeper.specs.declared.layout.TheConstants.{PENDING, MORE_FROM, MORE_T
 use Rattle.keeper.specs.Columns.{columns}
 use Rattle.keeper.specs.Answers.{pending, leaves_pending}
 use Rattle.keeper.specs.Meaning.{card_board, Means}
-use Rattle.keeper.proofs.Assumed.{depends}
 
 pub unmarked : (m : List ℕ) → Ready m → Unmarked m
 unmarked m R = record { fore_summed = R.fore_summed; hind_summed = R.hind_summed; fore_none = R.fore_none; hind_none = R.hind_none }

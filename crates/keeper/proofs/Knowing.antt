@@ -11,11 +11,10 @@ use Rattle.order.proofs.Renames.{renames}
 use Rattle.memory.specs.Columns.{cell}
 use Rattle.row.specs.declared.layout.TheConstants.{IDS}
 use Rattle.row.specs.Meaning.{used, row_of}
-use Rattle.row.proofs.Present.{has_used}
+use Rattle.row.proofs.Named.{has_used, slots_named}
 use Rattle.links.specs.Table.{edges}
 use Rattle.search.specs.Meaning.{slot_board, Ready}
 use Rattle.keeper.specs.Meaning.{card_board}
-use Rattle.keeper.proofs.Assumed.{slots_named}
 
 module _ (m : List ℕ) (R : Ready m) where
   -- each link is between slots in use

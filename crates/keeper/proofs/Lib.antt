@@ -18,3 +18,9 @@ pub mod OwnSize
 pub mod Room
 pub mod Fitting
 pub mod Saying
+pub mod TwoCards
+pub mod CardsCome
+pub mod CardsGo
+pub mod Placing
+pub mod Unlinking
+pub mod Forward

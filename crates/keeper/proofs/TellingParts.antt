@@ -8,10 +8,9 @@ use Rattle.memory.specs.Columns.{cell}
 use Rattle.row.specs.declared.layout.TheConstants.{IDS, SLOTS}
 use Rattle.row.specs.Meaning.{count, cards, IsRow}
 use Rattle.row.specs.Telling.{next_seat, selected, tells, tellable, told, told_count}
-use Rattle.row.specs.Laws.{Tells}
 use Rattle.row.proofs.Present.{length_cards, few_cards}
+use Rattle.row.proofs.Tellings.{tells_middle}
 use Rattle.keeper.specs.Telling.{cards_from, middle}
-use Rattle.keeper.proofs.Assumed.{tells_law}
 
 length_from : (n : ℕ) (m : List ℕ) (p : ℕ) → length (cards_from n m p) ≡ n
 unfolding cards_from
@@ -43,12 +42,11 @@ told_middle m p n out h =
 
 -- the cards from a place on are the row's
 pub middle_is : (m : List ℕ) (p n : ℕ) → IsRow m → p + n ≤ count m → middle m p n ≡ take n (drop p (cards m))
-unfolding Tells
 middle_is m p n S h =
     let out = replicate {A = ℕ} n 0 in
     let l = length-replicate {A = ℕ} n 0 in
     let f = few_cards m S in
-    let t = tells_law m p n out S (omega (arith, length_cards m S)) (omega arith) in
+    let t = tells_middle m p n out S (omega (arith, length_cards m S)) (omega arith) in
     let k : length (middle m p n) ≡ n = length_middle m p n in
     let b : tellable m p n out ≡ true = grind (arith, nat_tests) in
     let e = sym (told_middle m p n out b) ∙ t.1 in

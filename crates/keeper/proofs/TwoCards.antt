@@ -11,8 +11,7 @@ use Rattle.row.specs.declared.layout.TheConstants.{IDS, SEATS}
 use Rattle.row.specs.Lookup.{found}
 use Rattle.row.specs.Meaning.{used, cards}
 use Rattle.row.proofs.Present.{finds}
-use Rattle.row.proofs.Rows.{order_is}
-use Rattle.row.proofs.Rows.{seated as seating}
+use Rattle.row.proofs.Named.{order_slots}
 use Rattle.search.specs.Meaning.{slot_board, Ready}
 use Rattle.keeper.specs.Meaning.{card_board}
 use Rattle.keeper.specs.Linking.{slots_found}
@@ -70,4 +69,4 @@ module _ (m : List ℕ) (R : Ready m) where
     pub backward_seats : backward r a b ≡ ltb (cell m SEATS t) (cell m SEATS s)
     backward_seats =
         rw (sym A.card, sym B.card) ((names m R).backward_named s t A.in_use B.in_use)
-        ∙ sym (order_is m (seating m R.is_row) t s B.in_use A.in_use)
+        ∙ sym (order_slots m R.is_row t s B.in_use A.in_use)
