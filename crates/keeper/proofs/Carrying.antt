@@ -81,6 +81,15 @@ module _ (fs : List Column) (m m' : List ℕ) (w : Writes fs m m') where
       ready_kept R u =
           ready_of m' (same_row.is_row R.is_row) (table_kept fs l m m' w R.is_table) u (subst (λ (b : Board). fine b ≡ true) (sym same_slots) R.fine_so)
 
+      pub means_kept : {r : Board} → clear fs PENDING ≡ true → Means m r → Unmarked m' → Means m' r
+      means_kept p M u = record {
+        ready = ready_kept M.ready u;
+        single = ap once (edges_kept fs l m m' w) ∙ M.single;
+        long = let e = w.as_long in let z = M.long in omega arith;
+        idle = w.others PENDING 0 p ∙ M.idle;
+        is = M.is ∙ sym same_board;
+      }
+
   -- beside what is pending: the memory means another board, by the board of slots after it
   pub means_by : {r : Board} → clear fs PENDING ≡ true → Means m r → IsRow m' → IsTable m' → Unmarked m' → (x : Board) → slot_board m' ≡ x → fine x ≡ true →
       once x.links ≡ true → (b : Board) → b ≡ renamed (cell m' IDS) x → Means m' b

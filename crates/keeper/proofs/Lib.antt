@@ -10,13 +10,14 @@ pub mod Zeros
 pub mod Same
 pub mod Excluding
 pub mod Writing
-pub mod Assumed
 pub mod Knowing
 pub mod Carrying
 pub mod TellingParts
+pub mod Bounds
 pub mod OwnSize
 pub mod Room
 pub mod Fitting
+pub mod PlayedOn
 pub mod Saying
 pub mod TwoCards
 pub mod CardsCome
@@ -24,3 +25,11 @@ pub mod CardsGo
 pub mod Placing
 pub mod Unlinking
 pub mod Forward
+pub mod Backward
+pub mod Moving
+pub mod ToldRuns
+pub mod ToldParts
+pub mod Wholly
+pub mod PlayedRun
+pub mod RowRead
+pub mod EngineSteps

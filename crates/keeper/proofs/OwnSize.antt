@@ -47,7 +47,10 @@ use Rattle.keeper.proofs.Size.{small_each, each_small, small_take, small_map, si
 use Rattle.keeper.proofs.Carrying.{noted, noted_more}
 use Rattle.keeper.proofs.TellingParts.{length_middle}
 use Rattle.keeper.proofs.Zeros.{steady_zeros}
-use Rattle.keeper.proofs.Assumed.{meeting_writes, settled_writes, forgotten_writes, way_few}
+use Rattle.search.proofs.Touching.{writes_meeting}
+use Rattle.keeper.proofs.Bounds.{settled_writes}
+use Rattle.search.proofs.SettleFrames.{writes_forgotten}
+use Rattle.search.proofs.Joining.{way_few}
 
 -- what the crates below do to the memory
 pub size_inserted : (m : List ℕ) (x : Link) → KeepsSize m (inserted m x)
@@ -57,10 +60,10 @@ pub size_removed : (m : List ℕ) (x : Link) → KeepsSize m (removed m x).memor
 size_removed m x = size_writes link_columns m _ (removed_writes m x)
 
 pub size_meeting : (m : List ℕ) (x : Link) → KeepsSize m (meeting m x).memory
-size_meeting m x = size_writes _ m _ (meeting_writes m x)
+size_meeting m x = size_writes _ m _ (writes_meeting m x)
 
 pub size_forgotten : (m : List ℕ) → KeepsSize m (forgotten m)
-size_forgotten m = size_writes _ m _ (forgotten_writes m)
+size_forgotten m = size_writes _ m _ (writes_forgotten m)
 
 pub size_settled : (m : List ℕ) → KeepsSize m (settled m)
 size_settled m = size_writes _ m _ (settled_writes m)

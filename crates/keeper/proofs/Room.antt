@@ -27,7 +27,7 @@ use Rattle.keeper.specs.Own.{shown_places, said, went_on, answer}
 use Rattle.keeper.proofs.TellingParts.{length_middle}
 use Rattle.keeper.proofs.OwnSize.{Any}
 use Rattle.keeper.proofs.Size.{cond_holds}
-use Rattle.keeper.proofs.Assumed.{way_few}
+use Rattle.search.proofs.Joining.{way_few}
 
 abbrev pub Few : Answer → Type 0
 Few a = length a.numbers ≤ OUTPUT

@@ -67,7 +67,6 @@ pub fn plays_unfit_stands()
 {}
 
 // The row that is read is the board's.
-#[tactic(auto, using(crate::proofs::RowRead::reads_row))]
 pub fn reads_row_stands()
     ensures { ReadsRow }
 {}

@@ -2,6 +2,7 @@ pub mod Columns
 pub mod Meaning
 pub mod Way
 pub mod WayLaws
+pub mod Sides
 pub mod Hunt
 pub mod HuntLaws
 pub mod Settle

@@ -1,8 +1,15 @@
-// stand-in
+// What stands between two cards and is touched by a link: looked for from both ends in turn, settled, or shown as a way that goes round.
 #![tactic(auto)]
 
+mod hunt;
 mod layout;
-mod stand;
+mod settling;
+mod side;
+mod theory;
+mod way;
 
+pub use hunt::meet;
 pub use layout::{CHOSEN, FORE, HIND, VIA};
-pub use stand::{forget, meet, settle, show_and_forget};
+pub use settling::{forget, settle};
+pub use theory::fresh_memory_stands;
+pub use way::{show_and_forget, show_trail};

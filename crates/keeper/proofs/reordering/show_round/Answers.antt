@@ -1,6 +1,6 @@
 use Rattle.std.proofs.Common.{arith}
 use Rattle.keeper.specs.Reordering.{round_cards, shown_round}
-use Rattle.keeper.proofs.Assumed.{shown_is}
+use Rattle.search.proofs.Joining.{shown_is}
 use Rattle.keeper.proofs.reordering.show_round.Goals as goal
 
 pub returns : goal.returns

@@ -1,0 +1,98 @@
+-- The two searches over the board of slots: what a link tells of slots and seats, for both directions at once.
+use Rattle.std.proofs.Common.{◌≡◌, ℕ, ◌<◌, ◌≤◌, Bool, true, leb, List, sym, ◌∙◌, arith}
+use Rattle.std.proofs.lemmas.Bool.{and_parts, and_from, le-leb, leb-true, ltb-true, lt-ltb}
+use Rattle.order.specs.declared.board.TheConstants.{CARDS}
+use Rattle.order.specs.Lists.{place}
+use Rattle.order.specs.Board.{Board, leads, linked}
+use Rattle.order.proofs.Climbs.{Fine, fine_parts, link_ends, link_before}
+use Rattle.order.proofs.Leading.{leads_just}
+use Rattle.memory.specs.declared.place_set.TheConstants.{PLACES}
+use Rattle.memory.specs.Columns.{cell}
+use Rattle.row.specs.declared.layout.TheConstants.{SLOTS, SEATS}
+use Rattle.row.specs.Meaning.{row_of, used, taken}
+use Rattle.row.proofs.Rows.{Seated, seated, room, sitting, at_seat, has_is, order_is}
+use Rattle.search.specs.declared.side.Side.{Side}
+use Rattle.search.specs.declared.side.Side.TheVariants.{Fore, Hind}
+use Rattle.search.specs.Sides.{other}
+use Rattle.search.specs.Meaning.{slot_board, part, Ready}
+
+-- where a search begins
+abbrev pub origin : ℕ → ℕ → Side → ℕ
+origin a b Fore = b
+origin a b Hind = a
+
+-- a link leads a search from x to y
+abbrev pub arc : Board → Side → ℕ → ℕ → Bool
+arc r Fore x y = linked r x y
+arc r Hind x y = linked r y x
+
+-- links lead a search from x to y
+abbrev pub comes : Board → Side → ℕ → ℕ → Bool
+comes r Fore x y = leads r x y
+comes r Hind x y = leads r y x
+
+-- the seat q is farther than p
+abbrev pub Beyond : Side → ℕ → ℕ → Type 0
+Beyond Fore p q = p < q
+Beyond Hind p q = q < p
+
+-- the link that is asked for: it goes backward
+pub record Setting (m : List ℕ) (a b : ℕ) : Type 0 where
+  pub ready : Ready m
+  pub a_used : used m a ≡ true
+  pub b_used : used m b ≡ true
+  pub before : cell m SEATS b < cell m SEATS a
+
+module _ (m : List ℕ) (a b : ℕ) (S : Setting m a b) where
+  abbrev r : Board
+  r = slot_board m
+
+  fine_so : Fine r
+  fine_so = fine_parts r S.ready.fine_so
+
+  sits : Seated m
+  sits = seated m S.ready.is_row
+
+  -- the slot sits, and at its seat sits the slot
+  pub used_tells : (s : ℕ) → used m s ≡ true → (s < CARDS) × (taken m (cell m SEATS s) ≡ true) × (cell m SLOTS (cell m SEATS s) ≡ s)
+  used_tells s u = sitting m sits s u
+
+  pub taken_tells : (p : ℕ) → taken m p ≡ true → (used m (cell m SLOTS p) ≡ true) × (cell m SEATS (cell m SLOTS p) ≡ p) × (p < PLACES)
+  taken_tells p h = (at_seat m sits p h, sits.stands.seat_of p h, room m sits p h)
+
+  pub seat_below : (s : ℕ) → used m s ≡ true → cell m SEATS s < PLACES
+  seat_below s u = (taken_tells (cell m SEATS s) (used_tells s u).1).2
+
+  linked_tells : (x y : ℕ) → linked r x y ≡ true → (used m x ≡ true) × (used m y ≡ true) × (cell m SEATS x < cell m SEATS y)
+  linked_tells x y h =
+      let e = link_ends r fine_so x y h in
+      let u = sym (has_is m sits x) ∙ e.0 in
+      let v = sym (has_is m sits y) ∙ e.1 in
+      let l = lt-ltb (place (row_of m) x) (place (row_of m) y) (link_before r fine_so x y h) in
+      (u, v, ltb-true (cell m SEATS x) (cell m SEATS y) (order_is m sits x y u v ∙ l))
+
+  pub arc_tells : (d : Side) (x y : ℕ) → arc r d x y ≡ true → (used m x ≡ true) × (used m y ≡ true) × Beyond d (cell m SEATS x) (cell m SEATS y)
+  arc_tells Fore x y h = linked_tells x y h
+  arc_tells Hind x y h = let t = linked_tells y x h in (t.1, t.0, t.2)
+
+  pub comes_self : (d : Side) (x : ℕ) → comes r d x x ≡ true
+  comes_self Fore x = (leads_just r x x x S.ready.fine_so).0
+  comes_self Hind x = (leads_just r x x x S.ready.fine_so).0
+
+  pub comes_on : (d : Side) (x y z : ℕ) → comes r d x y ≡ true → arc r d y z ≡ true → comes r d x z ≡ true
+  comes_on Fore x y z h e = (leads_just r x y z S.ready.fine_so).2 h ((leads_just r y z z S.ready.fine_so).1 e)
+  comes_on Hind x y z h e = (leads_just r z y x S.ready.fine_so).2 ((leads_just r z y y S.ready.fine_so).1 e) h
+
+  -- the two searches meet: from the one's origin to the other's
+  pub comes_round : (d : Side) (x t : ℕ) → comes r d (origin a b d) x ≡ true → arc r d x t ≡ true → comes r (other d) (origin a b (other d)) t ≡ true
+      → leads r b a ≡ true
+  comes_round Fore x t h e k = (leads_just r b t a S.ready.fine_so).2 (comes_on Fore b x t h e) k
+  comes_round Hind x t h e k = (leads_just r b t a S.ready.fine_so).2 k (comes_on Hind a x t h e)
+
+  pub part_tells : (q : ℕ) → part m a b q ≡ true → (cell m SEATS b ≤ q) × (q ≤ cell m SEATS a) × (q < PLACES)
+  part_tells q h =
+      let p = and_parts (leb (cell m SEATS b) q) (leb q (cell m SEATS a)) h in
+      (leb-true (cell m SEATS b) q p.0, leb-true q (cell m SEATS a) p.1, omega (arith, leb-true q (cell m SEATS a) p.1, seat_below a S.a_used))
+
+  pub part_from : (q : ℕ) → cell m SEATS b ≤ q → q ≤ cell m SEATS a → part m a b q ≡ true
+  part_from q x y = and_from _ _ (le-leb (cell m SEATS b) q x) (le-leb q (cell m SEATS a) y)

@@ -1,0 +1,97 @@
+-- The numbers that pass a test, from one on, as a list: going from each to the next goes through that list.
+use Rattle.std.proofs.Common.{◌≡◌, ℕ, zero, suc, ◌+◌, ◌<◌, ◌≤◌, min, Bool, true, false, ◌||◌, eqb, List, [], ◌∷◌, Some, None, Option, sym, refl, ap, ◌∙◌, inl, inr, arith}
+use Rattle.std.specs.List.{range_with_len}
+use Rattle.std.proofs.lemmas.Bool.{cases_Bool, cases_eq, cases_lt, cases_order, eqb-true, both_ways, and_parts, or_left, or_right, or_from}
+use Rattle.order.specs.Lists.{any, filter, has, distinct}
+use Rattle.order.proofs.Filters.{has_filter, distinct_filter}
+use Rattle.memory.specs.PlaceSetLaws.{JustAfter, Least}
+use Rattle.search.specs.Settle.{sooner}
+
+-- o is the first number from p on that passes f, or there is none
+abbrev pub From : (ℕ → Bool) → ℕ → Option ℕ → Type 0
+From f p None = (r : ℕ) → p ≤ r → f r ≡ false
+From f p (Some q) = (p ≤ q) × (f q ≡ true) × ((r : ℕ) → p ≤ r → r < q → f r ≡ false)
+
+-- the list is of all numbers from p on that pass f, upward
+abbrev pub Lists : (ℕ → Bool) → ℕ → List ℕ → Type 0
+Lists f p [] = (r : ℕ) → p ≤ r → f r ≡ false
+Lists f p (q ∷ qs) = ((p ≤ q) × (f q ≡ true) × ((r : ℕ) → p ≤ r → r < q → f r ≡ false)) × Lists f (q + 1) qs
+
+abbrev pub head_of : List ℕ → Option ℕ
+head_of [] = None
+head_of (q ∷ qs) = Some q
+
+pub from_after : (f g : ℕ → Bool) (p : ℕ) (o : Option ℕ) → ((r : ℕ) → f r ≡ g r) → JustAfter f p o → From g (p + 1) o
+from_after f g p None e a = λ r l. sym (e r) ∙ a r (omega arith)
+from_after f g p (Some q) e a = (let l = a.0 in omega arith, sym (e q) ∙ a.1, λ r l h. sym (e r) ∙ a.2 r (omega arith) h)
+
+pub from_least : (f g : ℕ → Bool) (o : Option ℕ) → ((r : ℕ) → f r ≡ g r) → Least f o → From g 0 o
+from_least f g None e a = λ r l. sym (e r) ∙ a r
+from_least f g (Some q) e a = (omega arith, sym (e q) ∙ a.0, λ r l h. sym (e r) ∙ a.1 r h)
+
+-- the first of two tests
+min_left : (p q : ℕ) → p ≤ q → min p q ≡ p
+min_left p q l = omega arith
+
+min_right : (p q : ℕ) → q ≤ p → min p q ≡ q
+min_right p q l = omega arith
+
+abbrev both : (ℕ → Bool) → (ℕ → Bool) → ℕ → Bool
+both f g r = f r || g r
+
+pub from_sooner : (f g : ℕ → Bool) (p : ℕ) (o q : Option ℕ) → From f p o → From g p q → From (both f g) p (sooner o q)
+from_sooner f g p None None a b = λ r l. or_from (f r) (g r) (a r l) (b r l)
+from_sooner f g p None (Some y) a b = (b.0, or_right (f y) (g y) b.1, λ r l h. or_from (f r) (g r) (a r l) (b.2 r l h))
+from_sooner f g p (Some x) None a b = (a.0, or_left (f x) (g x) a.1, λ r l h. or_from (f r) (g r) (a.2 r l h) (b r l))
+from_sooner f g p (Some x) (Some y) a b = elim (cases_lt x y) [
+  | inl l ↦ rw (min_left x y (omega arith)) (a.0, or_left (f x) (g x) a.1, λ r k h. or_from (f r) (g r) (a.2 r k h) (b.2 r k (omega arith)))
+  | inr l ↦ rw (min_right x y l) (b.0, or_right (f y) (g y) b.1, λ r k h. or_from (f r) (g r) (a.2 r k (omega arith)) (b.2 r k h))
+]
+
+pub from_list : (f : ℕ → Bool) (p : ℕ) (qs : List ℕ) (o : Option ℕ) → Lists f p qs → From f p o → o ≡ head_of qs
+from_list f p [] None l a = refl
+from_list f p [] (Some x) l a = absurd (both_ways (f x) (l x a.0) a.1)
+from_list f p (q ∷ qs) None l a = absurd (both_ways (f q) (a q l.0.0) l.0.1)
+from_list f p (q ∷ qs) (Some x) l a = elim (cases_order x q) [
+  | inl e ↦ ap Some e
+  | inr (inl h) ↦ absurd (both_ways (f x) (l.0.2 x a.0 h) a.1)
+  | inr (inr h) ↦ absurd (both_ways (f q) (a.2 q l.0.0 h) l.0.1)
+]
+
+-- the list, if none but some in a row of numbers pass
+pub lists_filter : (f : ℕ → Bool) (p a n : ℕ) → p ≤ a → ((r : ℕ) → p ≤ r → r < a → f r ≡ false) → ((r : ℕ) → a + n ≤ r → f r ≡ false) →
+    Lists f p (filter f (range_with_len a n))
+unfolding filter
+lists_filter f p a zero l before behind = λ r h. elim (cases_lt r a) [ inl i ↦ before r h i | inr i ↦ behind r (omega arith) ]
+lists_filter f p a (suc n) l before behind = elim (cases_Bool (f a)) [
+  | inl e ↦ rw e ((l, e, before), lists_filter f (a + 1) (a + 1) n (omega arith) (λ r h i. absurd (omega arith)) (λ r h. behind r (omega arith)))
+  | inr e ↦
+      rw e (lists_filter f p (a + 1) n (omega arith)
+      (λ r h i. elim (cases_eq r a) [ inl k ↦ ap f k ∙ e | inr k ↦ before r h (omega arith) ]) (λ r h. behind r (omega arith)))
+]
+
+-- what is in such a list
+pub counting_has : (a n k : ℕ) → has (range_with_len a n) k ≡ true → (a ≤ k) × (k < a + n)
+unfolding any
+counting_has a zero k h = absurd (both_ways false refl h)
+counting_has a (suc n) k h = elim (cases_Bool (eqb k a)) [
+  | inl e ↦ let i = eqb-true k a e in (omega arith, omega arith)
+  | inr e ↦ let ih = counting_has (a + 1) n k (grind arith) in (omega arith, omega arith)
+]
+
+pub in_filter : (f : ℕ → Bool) (a n k : ℕ) → has (filter f (range_with_len a n)) k ≡ true → (a ≤ k) × (k < a + n) × (f k ≡ true)
+in_filter f a n k h =
+    let s = and_parts (f k) (has (range_with_len a n) k) (sym (has_filter f (range_with_len a n) k) ∙ h) in
+    let c = counting_has a n k s.1 in
+    (c.0, c.1, s.0)
+
+pub counting_once : (a n : ℕ) → distinct (range_with_len a n) ≡ true
+unfolding distinct
+counting_once a zero = refl
+counting_once a (suc n) = elim (cases_Bool (has (range_with_len (a + 1) n) a)) [
+  | inl e ↦ absurd (let c = counting_has (a + 1) n a e in omega arith)
+  | inr e ↦ rw (e, counting_once (a + 1) n)
+]
+
+pub filter_once : (f : ℕ → Bool) (a n : ℕ) → distinct (filter f (range_with_len a n)) ≡ true
+filter_once f a n = distinct_filter f (range_with_len a n) (counting_once a n)
