@@ -11,14 +11,13 @@ use Rattle.row.specs.Meaning.{used}
 use Rattle.chains.specs.declared.cells.Pointer.{Pointer}
 use Rattle.links.specs.Table.{edges}
 use Rattle.search.specs.declared.side.Side.{Side}
-use Rattle.search.specs.declared.side.Side.TheVariants.{Fore, Hind}
 use Rattle.search.specs.declared.hunt.Front.{Front}
 use Rattle.search.specs.Sides.{marks_of, other, ahead}
 use Rattle.search.specs.Hunt.{Spreading, spreading, Going, advanced, moved, gone_on, part_of}
 use Rattle.search.specs.Meaning.{Trailed}
-use Rattle.search.proofs.Potential.{entries, weight, weight_passed, cost}
+use Rattle.search.proofs.Potential.{weight, weight_passed, cost}
 use Rattle.search.proofs.Between.{Setting, used_tells, taken_tells}
-use Rattle.search.proofs.Reaching.{near_end, labels, Along, along}
+use Rattle.search.proofs.Reaching.{near_end, Along, along}
 use Rattle.search.proofs.Sounding.{Sound}
 use Rattle.search.proofs.Spreads.{Covered, Ends, Spreaded, spreads}
 use Rattle.search.proofs.Parting.{Closed, trailed}

@@ -2,7 +2,7 @@
 use Rattle.std.proofs.Common.{◌≡◌, ℕ, ◌<◌, ◌≤◌, Bool, true, ltb, leb, List, sym, ◌∙◌, arith}
 use Rattle.std.proofs.lemmas.Bool.{and_parts, and_from, le-leb, leb-true, ltb-true, lt-ltb}
 use Rattle.order.specs.declared.board.TheConstants.{CARDS}
-use Rattle.order.specs.Lists.{has, place}
+use Rattle.order.specs.Lists.{place}
 use Rattle.order.specs.Board.{Board, leads, linked}
 use Rattle.order.proofs.Climbs.{Fine, fine_parts, link_ends, link_before}
 use Rattle.order.proofs.Leading.{leads_just}

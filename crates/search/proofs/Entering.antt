@@ -12,10 +12,10 @@ use Rattle.memory.proofs.Footprints.{put}
 use Rattle.memory.proofs.Adding.{adding}
 use Rattle.memory.proofs.Alone.{writes_added}
 use Rattle.row.specs.declared.layout.TheConstants.{SLOTS, SEATS}
-use Rattle.row.specs.Meaning.{used, taken}
+use Rattle.row.specs.Meaning.{used}
 use Rattle.search.specs.declared.side.Side.{Side}
 use Rattle.search.specs.declared.side.Side.TheVariants.{Fore, Hind}
-use Rattle.search.specs.declared.layout.TheConstants.{VIA, HIND}
+use Rattle.search.specs.declared.layout.TheConstants.{VIA}
 use Rattle.search.specs.Columns.{searched}
 use Rattle.search.specs.Sides.{marks_of, other}
 use Rattle.search.specs.Hunt.{sees, entered, part_of}

@@ -1,5 +1,5 @@
 -- What a search meets in the chain of a slot: just the slots that it is linked to, one for each link.
-use Rattle.std.proofs.Common.{◌≡◌, ℕ, zero, suc, ◌+◌, ◌<◌, ◌≤◌, Bool, true, false, cond, ◌&&◌, ◌||◌, eqb, List, [], ◌∷◌, map, reverse, length, Some, None, Option, sym, refl, ap, ◌∙◌, inl, inr, arith}
+use Rattle.std.proofs.Common.{◌≡◌, ℕ, zero, suc, ◌+◌, ◌<◌, ◌≤◌, Bool, ◌&&◌, ◌||◌, eqb, List, [], ◌∷◌, map, reverse, length, Some, None, Option, sym, refl, ap, ◌∙◌, inl, inr, arith}
 use mathlib.Core.List.{reverse_aux}
 use Rattle.std.proofs.lemmas.Bool.{cases_Bool}
 use Rattle.std.proofs.lemmas.Bool.Decides.{nat_tests}
@@ -16,7 +16,7 @@ use Rattle.chains.specs.Laws.{Reads}
 use Rattle.chains.specs.Walks.{given, met_by, walked, walked_by}
 use Rattle.chains.proofs.Walking.{Leads, leads}
 use Rattle.chains.proofs.Reading.{reads}
-use Rattle.links.specs.declared.layout.TheConstants.{ENTRIES, OUT, IN, AGE, ALL}
+use Rattle.links.specs.declared.layout.TheConstants.{ENTRIES, AGE, ALL}
 use Rattle.links.specs.Pairs.{unpair}
 use Rattle.links.specs.Table.{edges, IsTable}
 use Rattle.links.specs.Laws.{Gives}

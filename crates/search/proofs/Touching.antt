@@ -1,5 +1,5 @@
 -- What a search writes, whatever stands in the memory.
-use Rattle.std.proofs.Common.{◌≡◌, ℕ, zero, suc, ◌^◌, ◌<◌, Bool, true, false, cond, not, ◌&&◌, List, [], ◌∷◌, Some, None, Option, refl, Continue, Break, ControlFlow, arith}
+use Rattle.std.proofs.Common.{◌≡◌, ℕ, zero, suc, ◌^◌, ◌<◌, Bool, true, false, cond, not, ◌&&◌, List, [], ◌∷◌, Some, None, Option, refl, Continue, Break, ControlFlow}
 use Rattle.order.specs.declared.board.Link.{Link}
 use Rattle.memory.specs.Columns.{cell, written}
 use Rattle.memory.specs.Footprints.{Small, Writes}
@@ -91,7 +91,7 @@ writes_hunted (suc f) m w c d =
     met_both m true x h = same searched m
     met_both m false x h = h
 
-writes_started : (m : List ℕ) (l : Link) → W m (started m l)
+pub writes_started : (m : List ℕ) (l : Link) → W m (started m l)
 writes_started m l =
     let n = added m FORE.column (cell m SEATS l.to) in
     writes_marked m n Hind (cell m SEATS l.from) (marks_added m Fore (cell m SEATS l.to))
@@ -104,3 +104,6 @@ writes_meeting m l =
     let d = front Hind (cell m SEATS l.from) in
     on searched m (started m l) (hunted TURNS (started m l) (part_of m l) c d).memory (writes_started m l)
     (writes_hunted TURNS (started m l) (part_of m l) c d)
+
+pub writes_met : (m : List ℕ) (l : Link) (m' : List ℕ) → m' ≡ (meeting m l).memory → Writes searched m m'
+writes_met m l m' e = rw e (writes_meeting m l)
