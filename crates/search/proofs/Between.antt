@@ -10,11 +10,11 @@ use Rattle.memory.specs.declared.place_set.TheConstants.{PLACES}
 use Rattle.memory.specs.Columns.{cell}
 use Rattle.row.specs.declared.layout.TheConstants.{SLOTS, SEATS}
 use Rattle.row.specs.Meaning.{row_of, used, taken}
+use Rattle.row.proofs.Rows.{Seated, seated, room, sitting, at_seat, has_is, order_is}
 use Rattle.search.specs.declared.side.Side.{Side}
 use Rattle.search.specs.declared.side.Side.TheVariants.{Fore, Hind}
 use Rattle.search.specs.Sides.{other}
 use Rattle.search.specs.Meaning.{slot_board, part, Ready}
-use Rattle.search.proofs.Assumed.{has_is, order_is, sitting, at_seat}
 
 -- where a search begins
 abbrev pub origin : ℕ → ℕ → Side → ℕ
@@ -50,12 +50,15 @@ module _ (m : List ℕ) (a b : ℕ) (S : Setting m a b) where
   fine_so : Fine r
   fine_so = fine_parts r S.ready.fine_so
 
+  sits : Seated m
+  sits = seated m S.ready.is_row
+
   -- the slot sits, and at its seat sits the slot
   pub used_tells : (s : ℕ) → used m s ≡ true → (s < CARDS) × (taken m (cell m SEATS s) ≡ true) × (cell m SLOTS (cell m SEATS s) ≡ s)
-  used_tells s u = sitting m S.ready.is_row s u
+  used_tells s u = sitting m sits s u
 
   pub taken_tells : (p : ℕ) → taken m p ≡ true → (used m (cell m SLOTS p) ≡ true) × (cell m SEATS (cell m SLOTS p) ≡ p) × (p < PLACES)
-  taken_tells p h = at_seat m S.ready.is_row p h
+  taken_tells p h = (at_seat m sits p h, sits.stands.seat_of p h, room m sits p h)
 
   pub seat_below : (s : ℕ) → used m s ≡ true → cell m SEATS s < PLACES
   seat_below s u = (taken_tells (cell m SEATS s) (used_tells s u).1).2
@@ -63,10 +66,10 @@ module _ (m : List ℕ) (a b : ℕ) (S : Setting m a b) where
   linked_tells : (x y : ℕ) → linked r x y ≡ true → (used m x ≡ true) × (used m y ≡ true) × (cell m SEATS x < cell m SEATS y)
   linked_tells x y h =
       let e = link_ends r fine_so x y h in
-      let u = sym (has_is m S.ready.is_row x) ∙ e.0 in
-      let v = sym (has_is m S.ready.is_row y) ∙ e.1 in
+      let u = sym (has_is m sits x) ∙ e.0 in
+      let v = sym (has_is m sits y) ∙ e.1 in
       let l = lt-ltb (place (row_of m) x) (place (row_of m) y) (link_before r fine_so x y h) in
-      (u, v, ltb-true (cell m SEATS x) (cell m SEATS y) (order_is m S.ready.is_row x y u v ∙ l))
+      (u, v, ltb-true (cell m SEATS x) (cell m SEATS y) (order_is m sits x y u v ∙ l))
 
   pub arc_tells : (d : Side) (x y : ℕ) → arc r d x y ≡ true → (used m x ≡ true) × (used m y ≡ true) × Beyond d (cell m SEATS x) (cell m SEATS y)
   arc_tells Fore x y h = linked_tells x y h
