@@ -8,12 +8,13 @@ use Rattle.order.specs.declared.board.TheConstants.{CARDS}
 use Rattle.order.specs.declared.board.Link.{Link}
 use Rattle.order.specs.Lists.{any, has, filter}
 use Rattle.memory.specs.Columns.{cell}
+use Rattle.memory.specs.Options.{given}
 use Rattle.chains.specs.declared.cells.Pointer.{Pointer}
 use Rattle.chains.specs.declared.chain_table.ChainTable.{ChainTable}
 use Rattle.chains.specs.Tables.{node, at}
 use Rattle.chains.specs.Chains.{Holds}
 use Rattle.chains.specs.Laws.{Reads}
-use Rattle.chains.specs.Walks.{given, met_by, walked, walked_by}
+use Rattle.chains.specs.Walks.{met_by, walked, walked_by}
 use Rattle.chains.proofs.Walking.{Leads, leads}
 use Rattle.chains.proofs.Reading.{reads}
 use Rattle.links.specs.declared.layout.TheConstants.{ENTRIES, AGE, ALL}
@@ -24,7 +25,7 @@ use Rattle.search.specs.declared.side.Side.{Side}
 use Rattle.search.specs.declared.side.Side.TheVariants.{Fore, Hind}
 use Rattle.search.specs.Sides.{table_of}
 use Rattle.search.specs.Meaning.{slot_board}
-use Rattle.search.proofs.Assumed.{gives}
+use Rattle.links.proofs.Giving.{gives}
 use Rattle.search.proofs.Between.{arc}
 use Rattle.search.proofs.Potential.{entries, entries_are}
 
