@@ -31,6 +31,8 @@ pub mod Advancing
 pub mod Bounding
 pub mod Starting
 pub mod Listed
+pub mod Mapped
+pub mod InThree
 pub mod Exchanged
 pub mod Seating
 pub mod Gathering
