@@ -178,10 +178,12 @@ fn hunt(memory: &mut Memory, part: Part, mut near: Front, mut far: Front) -> Opt
 
 // For a link between slots that goes backward: whether links lead from its second end to its first. Says a link at which the searches from both ends
 // met; none if they went to their ends.
-#[tactic(auto, unfolding(crate::specs::Hunt::meeting))]
+#[tactic(auto, using(crate::proofs::Starting::meets_so, crate::proofs::Touching::writes_met), unfolding(crate::specs::Hunt::meeting))]
 pub fn meet(memory: &mut Memory, link: Link) -> Option<Link>
     ensures is { result ≡ (meeting memory.old link).answer }
     ensures after { memory.new ≡ (meeting memory.old link).memory }
+    ensures law { Meets memory.old link result memory.new }
+    ensures wrote { Writes searched memory.old memory.new }
 {
     let low = SEATS.get(memory, link.to);
     let high = SEATS.get(memory, link.from);
