@@ -24,7 +24,6 @@ pub mod Seating
 pub mod Gathering
 pub mod Dealing
 pub mod Reordered
-pub mod RowPlaces
 pub mod SettleSteps
 pub mod SettleFrames
 pub mod RowSettled

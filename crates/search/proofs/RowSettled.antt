@@ -1,5 +1,5 @@
 -- After a search that came to its end, settling makes the firm row.
-use Rattle.std.proofs.Common.{◌≡◌, ℕ, suc, ◌+◌, ◌-◌, ◌^◌, ◌<◌, ◌≤◌, min, Bool, true, false, ◌&&◌, ◌||◌, leb, List, [], ◌∷◌, ◌++◌, map, reverse, length, sym, refl, ap, ◌∙◌, subst, ap₂, arith, length-append}
+use Rattle.std.proofs.Common.{◌≡◌, ℕ, suc, ◌+◌, ◌-◌, ◌^◌, ◌<◌, ◌≤◌, min, Bool, true, false, ◌&&◌, ◌||◌, leb, List, [], ◌∷◌, ◌++◌, map, length, sym, refl, ap, ◌∙◌, subst, ap₂, arith, length-append}
 use Rattle.std.specs.List.{range_with_len}
 use Rattle.std.proofs.lemmas.List.{length-map}
 use Rattle.std.proofs.lemmas.Bool.{and_parts, le-leb, lt-leb, and_left, and_right}
@@ -23,10 +23,9 @@ use Rattle.row.specs.declared.layout.TheConstants.{SEATS_MOST, COUNT, ENDING, FR
 use Rattle.row.specs.Meaning.{count, ending, fresh, free, listed, amount, bit_set, in_use, taken, rank, row_of, used, Standing, IsRow}
 use Rattle.row.proofs.Listing.{amount_more}
 use Rattle.row.proofs.Along.{amount_before}
-use Rattle.chains.specs.Walks.{walked_by}
-use Rattle.links.specs.declared.layout.TheConstants.{ENTRIES, AGE, ALL}
-use Rattle.links.specs.Pairs.{unpair}
-use Rattle.links.specs.Table.{columns as links_columns, edges, TableIn}
+use Rattle.row.proofs.Seatings.{one_seat}
+use Rattle.row.proofs.Present.{used_seat, has_slot, place_slot, few_cards}
+use Rattle.links.proofs.Keeping.{table_kept, edges_kept}
 use Rattle.search.specs.declared.layout.TheConstants.{FORE, HIND, CHOSEN}
 use Rattle.search.specs.Columns.{columns, searched, sets}
 use Rattle.search.specs.Meaning.{slot_board, slot_on, part, Ready, Parted}
@@ -40,7 +39,6 @@ use Rattle.search.proofs.Dealing.{put, put_slots, put_places, writes_put, deals}
 use Rattle.search.proofs.Exchanged.{exchanged, exchanged_same}
 use Rattle.search.proofs.Seating.{Rearranges, used_same, standing_again}
 use Rattle.search.proofs.Reordered.{those, fill, rearranges, row_is}
-use Rattle.search.proofs.RowPlaces.{sits_used, slot_one, has_slot, place_slot, few_cards}
 use Rattle.search.proofs.SettleFrames.{writes_forgotten, forgets_all}
 
 module _ (m m₁ : List ℕ) (a b : ℕ) (R : Ready m) (ua : used m a ≡ true) (ub : used m b ≡ true) (back : cell m SEATS b < cell m SEATS a)
@@ -80,7 +78,7 @@ module _ (m m₁ : List ℕ) (a b : ℕ) (R : Ready m) (ua : used m a ≡ true) 
   Q = inner (taken m) lo n
 
   ends : suc hi ≤ ending m
-  ends = R.is_row.stands.seated.below hi (sits_used m a ua).held
+  ends = R.is_row.stands.seated.below hi (used_seat m R.is_row a ua).0
 
   in_Q : (p : ℕ) → has Q p ≡ true → (lo ≤ p) × (p < lo + n) × (taken m p ≡ true)
   in_Q p h = in_inner (taken m) lo n p h
@@ -105,7 +103,7 @@ module _ (m m₁ : List ℕ) (a b : ℕ) (R : Ready m) (ua : used m a ≡ true) 
   rank_behind =
       let e : lo + n ≡ suc hi = omega arith in
       let w = amount_more (taken m) hi in
-      let t = (sits_used m a ua).held in
+      let t = (used_seat m R.is_row a ua).0 in
       part_end (taken m) lo n ∙ ap (λ (x : ℕ). length (filter (taken m) (range_with_len 0 x))) e ∙ w ∙ rw t (omega arith)
 
   few_Q : length Q ≤ CARDS
@@ -156,7 +154,7 @@ module _ (m m₁ : List ℕ) (a b : ℕ) (R : Ready m) (ua : used m a ≡ true) 
   rearranged : Rearranges (taken m) slot ps ks
   rearranged =
       rearranges slot A B Q apart_so (taken m) (λ p h. (in_Q p h).2) (inner_once (taken m) lo n)
-      (λ p q h i e. slot_one m R.is_row p q (in_Q p h).2 (in_Q q i).2 e)
+      (λ p q h i e. one_seat R.is_row.stands.seated p q (in_Q p h).2 (in_Q q i).2 e)
 
   seat_low : (p : ℕ) → has ps p ≡ true → p < SEATS_MOST
   seat_low p h = let e = R.is_row.stands.seated.below p (rearranged.seats_held p h) in omega arith
@@ -330,7 +328,7 @@ module _ (m m₁ : List ℕ) (a b : ℕ) (R : Ready m) (ua : used m a ≡ true) 
   -- that is the firm row
   back_row : place (row_of m) b < place (row_of m) a
   back_row =
-      let x = at_a in let y = at_b in let z = amount_before (taken m) lo hi back (sits_used m b ub).held in
+      let x = at_a in let y = at_b in let z = amount_before (taken m) lo hi back (used_seat m R.is_row b ub).0 in
       omega arith
 
   firm_so : row_of m' ≡ firm_row r f a b open_so back_row
@@ -342,20 +340,15 @@ module _ (m m₁ : List ℕ) (a b : ℕ) (R : Ready m) (ua : used m a ≡ true) 
   summed_m₃ c x y s =
       (cells_alone m₁ m₃ c (λ i. put_ks.others c i y ∙ wrote_ks.others c i x)).1 (let l = s.lies in rw (put_ks.as_long, wrote_ks.as_long) l) s
 
-  edges_so : edges m' ≡ edges m
-  unfolding edges
-  edges_so =
-      ap (λ (g : ℕ → ℕ). reverse (map (λ x. unpair x.label) (walked_by ENTRIES AGE g ALL))) (λ t p. wrote_so.others AGE.cells p refl t)
-
   pub settled_so : Settled m m' a b
   settled_so = record {
     is_row = row_again;
-    is_table = record { table = kept written_columns links_columns refl m m' wrote_so TableIn R.is_table.table };
+    is_table = table_kept written_columns refl m m' wrote_so R.is_table;
     unmarked =
         subst Unmarked (sym settled_is)
         (forgets_all m₃ (summed_m₃ FORE.column refl refl P.fore_summed) (summed_m₃ HIND.column refl refl P.hind_summed));
     wrote = wrote_so;
-    same_edges = edges_so;
+    same_edges = edges_kept written_columns refl m m' wrote_so;
     same_used = used_so;
     same_taken = taken_so;
     is_firm = ap (λ (x : List ℕ). firm r a b x) firm_so ∙ firm_is r f a b open_so back_row;
