@@ -17,12 +17,13 @@ pub mod Advancing
 pub mod Bounding
 pub mod Starting
 pub mod Listed
+pub mod Mapped
+pub mod InThree
 pub mod Exchanged
 pub mod Seating
 pub mod Gathering
 pub mod Dealing
 pub mod Reordered
-pub mod RowPlaces
 pub mod SettleSteps
 pub mod SettleFrames
 pub mod RowSettled
