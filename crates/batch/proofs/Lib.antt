@@ -91,3 +91,4 @@ pub mod CircleRenames
 pub mod AnewShown
 pub mod MakesAnew
 pub mod CardsIn
+pub mod Fitted

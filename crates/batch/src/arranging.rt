@@ -6,11 +6,12 @@ use crate::layout::{NUMBERS, SPARE};
 use crate::listing::fill;
 use crate::seating::{Span, row_len};
 use crate::sorting::sort_part;
+use memory::Memory;
 use row::{IDS, SLOTS, find};
 
 // The number of the card at a place.
 #[tactic(auto, unfolding(crate::specs::Arranging::card_at))]
-fn card_at(memory: &[u64], place: u64) -> u64
+fn card_at(memory: &Memory, place: u64) -> u64
     ensures { result ≡ card_at memory.now place }
 {
     IDS.get(memory, SLOTS.get(memory, place))
@@ -18,7 +19,7 @@ fn card_at(memory: &[u64], place: u64) -> u64
 
 // The slot of the card whose number stands at `i`. In any sound memory the card is there; in another any slot will do.
 #[tactic(auto, unfolding(crate::specs::Arranging::slot_at))]
-fn slot_at(memory: &[u64], i: u64) -> u64
+fn slot_at(memory: &Memory, i: u64) -> u64
     ensures { result ≡ slot_at memory.now i }
 {
     find(memory, NUMBERS.get(memory, i)).unwrap_or(0)
@@ -26,7 +27,7 @@ fn slot_at(memory: &[u64], i: u64) -> u64
 
 // Puts the row into the order of the cards' numbers.
 #[tactic(auto, unfolding(crate::specs::Arranging::arranged_by))]
-pub(crate) fn arrange(memory: &mut [u64])
+pub(crate) fn arrange(memory: &mut Memory)
     ensures { memory.new ≡ arranged memory.old }
 {
     let n = row_len(memory);

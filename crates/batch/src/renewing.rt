@@ -11,12 +11,14 @@ ghost use Rattle.batch.specs.Renewing.{lessened, next_by, left_by, released, let
 use crate::layout::{LEAVES, SPARE, WAITS};
 use crate::seating::row_len;
 use links::{Chain, ENTRIES, Meeting, from_of, rebuild, take_step, to_of};
-use row::{CARDS, Column, PLACES, SLOTS};
+use memory::{Column, Memory};
+use order::CARDS;
+use row::{PLACES, SLOTS};
 use search::FORE;
 
 // Nothing is counted.
 #[tactic(auto, unfolding(crate::specs::Renewing::cleared, links::specs::Building::blanked))]
-fn clear(memory: &mut [u64])
+fn clear(memory: &mut Memory)
     ensures { memory.new ≡ cleared memory.old }
 {
     WAITS.blank(memory, CARDS);
@@ -25,7 +27,7 @@ fn clear(memory: &mut [u64])
 
 // Counts one more for a slot.
 #[tactic(auto, unfolding(crate::specs::Renewing::raised))]
-fn raise(memory: &mut [u64], counts: Column, slot: u64)
+fn raise(memory: &mut Memory, counts: Column, slot: u64)
     ensures { memory.new ≡ raised memory.old counts slot }
 {
     let old = counts.get(memory, slot);
@@ -34,7 +36,7 @@ fn raise(memory: &mut [u64], counts: Column, slot: u64)
 
 // Counts the link of an entry, at both its ends.
 #[tactic(auto, unfolding(crate::specs::Renewing::counted))]
-fn count(memory: &mut [u64], entry: u64)
+fn count(memory: &mut Memory, entry: u64)
     ensures { memory.new ≡ counted memory.old entry }
 {
     let from = from_of(memory, entry);
@@ -45,7 +47,7 @@ fn count(memory: &mut [u64], entry: u64)
 
 // Counts the links of a table that has no dead entry.
 #[tactic(auto, using(crate::proofs::PlaceByPlace::turns), unfolding(crate::specs::Renewing::counted_all))]
-fn count_all(memory: &mut [u64])
+fn count_all(memory: &mut Memory)
     ensures { memory.new ≡ counts memory.old }
 {
     for entry in 0..links::len(memory).min(ENTRIES) {
@@ -55,7 +57,7 @@ fn count_all(memory: &mut [u64])
 
 // Marks the place of a slot, if it waits for none.
 #[tactic(auto, unfolding(crate::specs::Renewing::freed))]
-fn free(memory: &mut [u64], slot: u64)
+fn free(memory: &mut Memory, slot: u64)
     ensures { memory.new ≡ freed memory.old slot }
 {
     if WAITS.get(memory, slot) == 0 {
@@ -66,7 +68,7 @@ fn free(memory: &mut [u64], slot: u64)
 
 // Marks the places of all slots that wait for none.
 #[tactic(auto, using(crate::proofs::PlaceByPlace::turns), unfolding(crate::specs::Renewing::freed_all))]
-fn free_all(memory: &mut [u64])
+fn free_all(memory: &mut Memory)
     ensures { memory.new ≡ frees memory.old }
 {
     for place in 0..row_len(memory) {
@@ -77,7 +79,7 @@ fn free_all(memory: &mut [u64])
 
 // Counts the links and marks what waits for none.
 #[tactic(auto, unfolding(crate::specs::Renewing::prepared))]
-fn prepare(memory: &mut [u64])
+fn prepare(memory: &mut Memory)
     ensures { memory.new ≡ prepared memory.old }
 {
     rebuild(memory);
@@ -88,7 +90,7 @@ fn prepare(memory: &mut [u64])
 
 // The slot waits for one fewer.
 #[tactic(auto, unfolding(crate::specs::Renewing::lessened))]
-fn lessen(memory: &mut [u64], slot: u64)
+fn lessen(memory: &mut Memory, slot: u64)
     ensures { memory.new ≡ lessened memory.old slot }
 {
     let old = WAITS.get(memory, slot);
@@ -97,7 +99,7 @@ fn lessen(memory: &mut [u64], slot: u64)
 }
 
 // One step of a walk through the links out of a slot: what the link goes into waits for one fewer. Says where the walk goes on.
-fn release_one(memory: &mut [u64], pointer: u64) -> Option<u64>
+fn release_one(memory: &mut Memory, pointer: u64) -> Option<u64>
     ensures is { result ≡ next_by pointer (met memory.old Out pointer) }
     ensures after { memory.new ≡ left_by (stepped memory.old Out pointer) (met memory.old Out pointer) }
 {
@@ -115,7 +117,7 @@ fn release_one(memory: &mut [u64], pointer: u64) -> Option<u64>
 // A walk through the links out of a slot: what each goes into waits for one fewer. Each turn writes to the memory, which an iterator over the links
 // would hold lent; and there are no more turns than links were counted, whatever the memory holds.
 #[tactic(auto, using(crate::proofs::RenewSteps::releasing))]
-fn release(memory: &mut [u64], slot: u64, turns: u64)
+fn release(memory: &mut Memory, slot: u64, turns: u64)
     ensures { memory.new ≡ released turns memory.old slot }
 {
     let mut pointer = slot;
@@ -129,7 +131,7 @@ fn release(memory: &mut [u64], slot: u64, turns: u64)
 
 // The slot has come: the links out of it are followed, each once, since then none is counted any more.
 #[tactic(auto, unfolding(crate::specs::Renewing::let_go))]
-fn let_go(memory: &mut [u64], slot: u64)
+fn let_go(memory: &mut Memory, slot: u64)
     ensures { memory.new ≡ let_go memory.old slot }
 {
     let turns = LEAVES.get(memory, slot);
@@ -139,7 +141,7 @@ fn let_go(memory: &mut [u64], slot: u64)
 
 // The slot at the place comes, after `i` others.
 #[tactic(auto, unfolding(crate::specs::Renewing::drawn))]
-fn draw(memory: &mut [u64], place: u64, i: u64)
+fn draw(memory: &mut Memory, place: u64, i: u64)
     ensures { memory.new ≡ drawn memory.old place i }
 {
     let slot = SLOTS.get(memory, place);
@@ -151,7 +153,7 @@ fn draw(memory: &mut [u64], place: u64, i: u64)
 // Makes the row anew by the rule: writes the slots to SPARE in the order in which they come, and says how many come; all, unless links go round. That not
 // all come is no failure: how many came is what a circle is shown by.
 #[tactic(auto, using(crate::proofs::RenewSteps::renews), unfolding(crate::specs::Renewing::renewed))]
-pub(crate) fn renew(memory: &mut [u64]) -> u64
+pub(crate) fn renew(memory: &mut Memory) -> u64
     ensures is { result ≡ (renewed memory.old).came }
     ensures below { result ≤ 8192 }
     ensures after { memory.new ≡ (renewed memory.old).memory }

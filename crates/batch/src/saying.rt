@@ -9,8 +9,9 @@ use crate::joining::{join_all, take_out};
 use crate::layout::BATCH;
 use crate::seating::Span;
 use crate::tidying::tidy;
-use keeper::{Act, Event, LINKS, Memory, Output, Pending, Reason, Telling, hear};
-use row::{Link, Refusal};
+use keeper::{Act, Event, Output, Pending, Reason, Telling, hear};
+use memory::Memory;
+use order::{LINKS, Link, Refusal};
 
 // Tells the part of the row: it is noted as still to come, and the keeper goes on with it.
 #[tactic(auto, unfolding(keeper::specs::Own::answer, crate::specs::Saying::noting))]
@@ -52,7 +53,7 @@ impl<'a> Several<'a> {
 
     // Puts the part of the row aside.
     #[tactic(auto, unfolding(crate::specs::Saying::part_aside))]
-    fn save(self, memory: &mut [u64])
+    fn save(self, memory: &mut Memory)
         ensures { memory.new ≡ part_aside memory.old self.entry.span }
     {
         if let Some(span) = self.span {
@@ -62,7 +63,7 @@ impl<'a> Several<'a> {
 
     // Takes the links out again, and seats the part of the row as it was.
     #[tactic(auto, unfolding(crate::specs::Saying::undone))]
-    fn undo(self, memory: &mut [u64])
+    fn undo(self, memory: &mut Memory)
         ensures { memory.new ≡ undone memory.old self.entry.links.now self.entry.span }
     {
         take_out(memory, self.links);

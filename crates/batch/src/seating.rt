@@ -5,10 +5,12 @@ ghost use Rattle.batch.specs.Seating.{saved, reseated};
 
 use crate::layout::SPARE;
 use crate::listing::fill;
-use row::{CARDS, SLOTS, seat};
+use memory::Memory;
+use order::CARDS;
+use row::{SLOTS, seat};
 
 // How many cards the row has; no more than there may be, whatever stands in the memory.
-pub(crate) fn row_len(memory: &[u64]) -> u64
+pub(crate) fn row_len(memory: &Memory) -> u64
     ensures { result ≡ min (count memory.now) 8192 }
 {
     row::len(memory).min(CARDS)
@@ -30,7 +32,7 @@ impl Span {
     }
 
     // Puts the slots at the places aside.
-    pub(crate) fn save(self, memory: &mut [u64])
+    pub(crate) fn save(self, memory: &mut Memory)
         ensures { memory.new ≡ saved (min self.high 8192 - self.low) memory.old self.low }
     {
         fill(
@@ -43,7 +45,7 @@ impl Span {
 
     // Gives the places to the slots that were put aside for them.
     #[tactic(auto, using(crate::proofs::PlaceByPlace::turns), unfolding(crate::specs::Seating::reseated))]
-    pub(crate) fn reseat(self, memory: &mut [u64])
+    pub(crate) fn reseat(self, memory: &mut Memory)
         ensures { memory.new ≡ reseated (min self.high 8192 - self.low) memory.old self.low }
     {
         for place in self.low..self.high.min(CARDS) {

@@ -5,11 +5,12 @@ ghost use Rattle.batch.specs.Tidying.{tidied};
 use crate::arranging::arrange;
 use crate::renewing::renew;
 use crate::seating::{Span, row_len};
+use memory::Memory;
 
 // Makes the row anew by the rule, from the order of the cards' numbers on, and says whether all cards came: they do unless links go round, which they
 // can't in a sound memory. So there is nothing to tell of a failure but that.
 #[tactic(auto, unfolding(crate::specs::Tidying::tidied))]
-pub(crate) fn tidy(memory: &mut [u64]) -> bool
+pub(crate) fn tidy(memory: &mut Memory) -> bool
     ensures is { result ≡ (tidied memory.old).all }
     ensures after { memory.new ≡ (tidied memory.old).memory }
 {

@@ -1,99 +1,57 @@
--- Chains as functions: pushes, deaths and splices keep them.
-use Rattle.std.proofs.Common.{◌≡◌, ℕ, suc, ◌+◌, ◌-◌, ◌<◌, Bool, true, sym, ap, ◌∙◌, inl, inr, arith}
-use Rattle.std.proofs.lemmas.Bool.{cases_eq, cases_lt}
-use Rattle.links.specs.Skips.{Skips, Chained}
+-- The table is the same after anything that was written elsewhere.
+use Rattle.std.proofs.Common.{◌≡◌, ℕ, true, cond, List, map, reverse, None, ap}
+use Rattle.memory.specs.declared.column.Column.{Column}
+use Rattle.memory.specs.Footprints.{clear, clear_all, Writes, view}
+use Rattle.memory.proofs.Footprints.{kept}
+use Rattle.std.proofs.lemmas.Bool.{and_parts}
+use Rattle.order.specs.declared.board.Link.{Link}
+use Rattle.chains.specs.declared.cells.Pointer.{Pointer}
+use Rattle.chains.proofs.Framing.{walked_kept, met_kept}
+use Rattle.chains.specs.Walks.{walked, met}
+use Rattle.links.specs.declared.layout.TheConstants.{ENTRIES, LIVE, OUT, IN, AGE, ALL, PAIR}
+use Rattle.links.specs.Pairs.{is_between, pair, bucket, unpair}
+use Rattle.links.specs.Entries.{live, found, sought}
+use Rattle.links.specs.Table.{columns, edges, TableIn, IsTable}
 
--- the same keys, and no fewer dead
-pub skips_same : (f f' : ℕ → ℕ) (d d' : ℕ → Bool) (k e y : ℕ) → Skips f d k e y → ((l : ℕ) → l < e → f' l ≡ f l)
-    → ((l : ℕ) → l < e → d l ≡ true → d' l ≡ true) → Skips f' d' k e y
-skips_same f f' d d' k e y s fs ds = record {
-  low = s.low;
-  own = λ p. fs (y - 1) (omega (arith, s.low)) ∙ s.own p;
-  over = λ j a b q. ds j b (s.over j a b (sym (fs j b) ∙ q));
-}
+module _ (fs : List Column) (c : clear_all fs columns ≡ true) (m n : List ℕ) (w : Writes fs m n) where
+  pub table_kept : IsTable m → IsTable n
+  table_kept t = record { table = kept fs columns c m n w TableIn t.table }
 
-module _ (f : ℕ → ℕ) (d : ℕ → Bool) where
-  pub skips_more : (k e y : ℕ) → Skips f d k e y → (f e ≡ k → ⊥) → Skips f d k (suc e) y
-  skips_more k e y s n = record {
-    low = omega (arith, s.low);
-    own = s.own;
-    over = λ j a b q. elim (cases_eq j e) [ inl c ↦ absurd (n (sym (ap f c) ∙ q)) | inr c ↦ s.over j a (omega arith) q ];
-  }
+  clears : (clear fs LIVE ≡ true) × (clear fs OUT.cells ≡ true) × (clear fs IN.cells ≡ true) × (clear fs AGE.cells ≡ true) × (clear fs PAIR.cells ≡ true)
+  clears =
+      let a = and_parts (clear fs LIVE) _ c in
+      let b = and_parts (clear fs _) _ a.1 in
+      let d = and_parts (clear fs OUT.cells) _ b.1 in
+      let e = and_parts (clear fs IN.cells) _ d.1 in
+      let f = and_parts (clear fs AGE.cells) _ e.1 in
+      let g = and_parts (clear fs PAIR.cells) _ f.1 in
+      (a.0, d.0, e.0, f.0, g.0)
 
-  pub skips_here : (k e : ℕ) → f e ≡ k → Skips f d k (suc e) (suc e)
-  skips_here k e h = record {
-    low = omega arith;
-    own = λ p. let i : suc e - 1 ≡ e = omega arith in ap f i ∙ h;
-    over = λ j a b q. absurd (omega arith);
-  }
+  pub edges_kept : edges n ≡ edges m
+  unfolding edges
+  edges_kept = ap (λ (xs : List Pointer). reverse (map (λ x. unpair x.label) xs)) (walked_kept AGE fs clears.3 m n w ENTRIES ALL)
 
-  pub skips_none : (k e : ℕ) → ((j : ℕ) → j < e → f j ≡ k → d j ≡ true) → Skips f d k e 0
-  skips_none k e h = record { low = omega arith; own = λ p. absurd (omega arith); over = λ j a b q. h j b q }
+  pub live_kept : live n ≡ live m
+  live_kept = w.others LIVE 0 clears.0
 
-  -- over a dead entry, to where that points
-  pub skips_through : (k e y z : ℕ) → Skips f d k e y → 0 < y → d (y - 1) ≡ true → Skips f d (f (y - 1)) (y - 1) z → Skips f d k e z
-  skips_through k e y z s p h r =
-      let o = s.own p in
-      record {
-        low = omega (arith, s.low, r.low);
-        own = λ q. r.own q ∙ o;
-        over = λ j a b q. elim (cases_eq j (y - 1)) [
-          | inl c ↦ ap d c ∙ h
-          | inr c ↦ elim (cases_lt j (y - 1)) [ inl u ↦ r.over j a u (q ∙ sym o) | inr u ↦ s.over j (omega arith) b q ]
-        ];
-      }
+  pub out_met : (p : ℕ) → met OUT n p ≡ met OUT m p
+  out_met p = met_kept OUT fs clears.1 m n w p
 
-pub chained_push : (P f P' f' : ℕ → ℕ) (d d' : ℕ → Bool) (K e a : ℕ) → Chained P f d K e → a < K
-    → ((l : ℕ) → l < e → f' l ≡ f l) → f' e ≡ a → ((l : ℕ) → l < e → d l ≡ true → d' l ≡ true)
-    → ((p : ℕ) → (p ≡ a → ⊥) → (p ≡ K + e → ⊥) → P' p ≡ P p) → P' a ≡ suc e → P' (K + e) ≡ P a
-    → Chained P' f' d' K (suc e)
-chained_push P f P' f' d d' K e a c b fs fe ds ps he ne = record {
-  head = λ k i. elim (cases_eq k a) [
-    | inl q ↦ rw (q, he) (skips_here f' d' a e fe)
-    | inr q ↦
-        rw (ps k q (λ z. omega arith))
-        (skips_more f' d' k e (P k) (skips_same f f' d d' k e (P k) (c.head k i) fs ds) (λ u. q (sym u ∙ fe)))
-  ];
-  next = λ l i. elim (cases_eq l e) [
-    | inl q ↦ rw (q, ne, fe) (skips_same f f' d d' a e (P a) (c.head a b) fs ds)
-    | inr q ↦
-        let j : l < e = omega arith in
-        rw (ps (K + l) (λ z. omega arith) (λ z. omega arith), fs l j)
-        (skips_same f f' d d' (f l) l (P (K + l)) (c.next l j) (λ x y. fs x (omega arith)) (λ x y. ds x (omega arith)))
-  ];
-}
+  pub in_met : (p : ℕ) → met IN n p ≡ met IN m p
+  in_met p = met_kept IN fs clears.2 m n w p
 
-pub chained_same : (P f P' f' : ℕ → ℕ) (d d' : ℕ → Bool) (K e : ℕ) → Chained P f d K e → ((l : ℕ) → l < e → f' l ≡ f l)
-    → ((l : ℕ) → l < e → d l ≡ true → d' l ≡ true) → ((p : ℕ) → P' p ≡ P p) → Chained P' f' d' K e
-chained_same P f P' f' d d' K e c fs ds ps = record {
-  head = λ k i. rw (ps k) (skips_same f f' d d' k e (P k) (c.head k i) fs ds);
-  next = λ l i. rw (ps (K + l), fs l i)
-      (skips_same f f' d d' (f l) l (P (K + l)) (c.next l i) (λ x y. fs x (omega arith)) (λ x y. ds x (omega arith)));
-}
+  pub age_met : (p : ℕ) → met AGE n p ≡ met AGE m p
+  age_met p = met_kept AGE fs clears.3 m n w p
 
-module _ (P f P' : ℕ → ℕ) (d : ℕ → Bool) (K e p : ℕ) (c : Chained P f d K e) (ps : (q : ℕ) → (q ≡ p → ⊥) → P' q ≡ P q) where
-  -- the dead entry that the pointer p holds taken out: whatever p points for, it still does
-  pub skips_spliced : (k b q : ℕ) → 0 < P p → P p - 1 < e → d (P p - 1) ≡ true → P' p ≡ P (K + (P p - 1)) → Skips f d k b (P q) → Skips f d k b (P' q)
-  skips_spliced k b q h l t v s = elim (cases_eq q p) [
-    | inl z ↦ rw (z, v) (skips_through f d k b (P p) (P (K + (P p - 1))) (rw z at s) h t (c.next (P p - 1) l))
-    | inr z ↦ rw (ps q z) s
-  ]
+  pub out_walked : (f p : ℕ) → walked f OUT n p ≡ walked f OUT m p
+  out_walked f p = walked_kept OUT fs clears.1 m n w f p
 
-  pub chained_spliced : 0 < P p → P p - 1 < e → d (P p - 1) ≡ true → P' p ≡ P (K + (P p - 1)) → Chained P' f d K e
-  chained_spliced h l t v = record {
-    head = λ k i. skips_spliced k e k h l t v (c.head k i);
-    next = λ j i. skips_spliced (f j) j (K + j) h l t v (c.next j i);
-  }
+  pub in_walked : (f p : ℕ) → walked f IN n p ≡ walked f IN m p
+  in_walked f p = walked_kept IN fs clears.2 m n w f p
 
-  -- a chain of which all are dead emptied
-  pub chained_cleared : p < K → P' p ≡ 0 → ((j : ℕ) → j < e → f j ≡ p → d j ≡ true) → Chained P' f d K e
-  chained_cleared h v ds = record {
-    head = λ k i. elim (cases_eq k p) [ inl z ↦ rw (z, v) (skips_none f d p e ds) | inr z ↦ rw (ps k z) (c.head k i) ];
-    next = λ j i. rw (ps (K + j) (λ z. omega arith)) (c.next j i);
-  }
+  pub age_walked : (f p : ℕ) → walked f AGE n p ≡ walked f AGE m p
+  age_walked f p = walked_kept AGE fs clears.3 m n w f p
 
-pub chained_none : (P f : ℕ → ℕ) (d : ℕ → Bool) (K : ℕ) → ((k : ℕ) → k < K → P k ≡ 0) → Chained P f d K 0
-chained_none P f d K h = record {
-  head = λ k i. rw (h k i) (skips_none f d k 0 (λ j a b. absurd (omega arith)));
-  next = λ l i. absurd (omega arith);
-}
+  pub found_kept : (x : Link) → found n x ≡ found m x
+  unfolding found
+  found_kept x = ap (λ (xs : List Pointer). cond (is_between x) (sought (pair x) xs) None) (walked_kept PAIR fs clears.4 m n w ENTRIES (bucket x))

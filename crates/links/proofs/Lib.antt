@@ -1,18 +1,18 @@
-pub mod Turns
-pub mod Keeping
-pub mod Walking
-pub mod Edging
+mod Pairing
+mod Turns
+mod Filtering
+mod Parting
+pub mod Writing
+mod Coming
+mod Freeing
+mod Dropping
 pub mod Telling
-pub mod Columns
-pub mod Sameness
-pub mod Stepping
-pub mod Seeking
-pub mod Dying
-pub mod Striking
-pub mod Adding
-pub mod Appending
-pub mod Emptying
-pub mod Again
-pub mod Framing
-pub mod Bounding
+mod Standing
+mod Taking
+pub mod Onces
+mod Seeking
+pub mod Keeping
 pub mod Operating
+pub mod Giving
+pub mod Beginning
+mod Promises

@@ -7,7 +7,7 @@ mod tests {
         Chain, ENTRIES, Meeting, find, from_of, insert, len, rebuild, remove, remove_all,
         take_step, to_of,
     };
-    use row::{Link, Refusal};
+    use order::{Link, Refusal};
     use std::process::Abort;
     use std::test::Fail;
 

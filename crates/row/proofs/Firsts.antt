@@ -1,34 +1,65 @@
--- The first of two cards that is met in a row stands before the other; the links that numbers spell, as pairs.
-use Rattle.std.proofs.Common.{◌≡◌, ℕ, zero, suc, ◌+◌, ◌*◌, ◌/◌, ◌≤◌, Bool, false, cond, not, ◌||◌, eqb, ltb, List, [], ◌∷◌, length, slice_index, Some, None, refl, arith}
-use Rattle.std.proofs.lemmas.Bool.Decides.{nat_tests}
-use Rattle.std.specs.List.{find, position_or_len}
-use Rattle.std.specs.Simd.{first_chunks}
-use Rattle.row.specs.Lists.{place}
-use Rattle.row.specs.Lookup.{given}
-use Rattle.row.specs.Kept.{before, links_of, broken_pair, first_broken}
+-- The first number from one on that passes a test.
+use Rattle.std.proofs.Common.{◌≡◌, ℕ, zero, suc, ◌+◌, ◌-◌, ◌<◌, ◌≤◌, min, Bool, true, false, List, sym, refl, ap, ◌∙◌, inl, inr, arith}
+use Rattle.std.proofs.lemmas.Bool.{cases_Bool, cases_lt, cases_eq, both_ways}
+use Rattle.row.specs.declared.layout.TheConstants.{SEATS_MOST}
+use Rattle.row.specs.Meaning.{taken}
+use Rattle.row.specs.Telling.{first_from, next_seat}
+use Rattle.row.specs.Laws.{Next}
+use Rattle.row.proofs.Counting.{none_past}
 
--- the first of the two decides
-pub first_met : (row : List ℕ) (a b : ℕ) → before row a b ≡ given (find (λ x. eqb x a || eqb x b) row) false (λ x. not (eqb x b))
-unfolding before place
-first_met [] a b = refl
-first_met (x ∷ row) a b = let ih = first_met row a b in grind (arith, nat_tests)
+module _ (f : ℕ → Bool) where
+  pub first_is : (n p q : ℕ) → p ≤ q → q < p + n → f q ≡ true → ((r : ℕ) → p ≤ r → r < q → f r ≡ false) → first_from f n p ≡ q
+  unfolding first_from
+  first_is zero p q l u h o = absurd (omega arith)
+  first_is (suc n) p q l u h o = elim (cases_eq p q) [
+    | inl e ↦ let t : f p ≡ true = ap f e ∙ h in rw t e
+    | inr ne ↦ let t = o p (omega arith) (omega arith) in rw t (first_is n (p + 1) q (omega arith) (omega arith) h (λ r a b. o r (omega arith) b))
+  ]
 
--- the pairs of the numbers are their links
-module _ (row : List ℕ) where
-  abbrev test : List ℕ → Bool
-  test p = not (before row (slice_index p 0) (slice_index p 1))
+  pub first_none : (n p : ℕ) → ((r : ℕ) → p ≤ r → r < p + n → f r ≡ false) → first_from f n p ≡ p + n
+  unfolding first_from
+  first_none zero p o = omega arith
+  first_none (suc n) p o =
+      let t = o p (omega arith) (omega arith) in
+      rw t (first_none n (p + 1) (λ r a b. o r (omega arith) (omega arith)) ∙ omega arith)
 
-  -- the first that passes, where the pairs are counted from i
-  pairs_from : (k : ℕ) (ns : List ℕ) (i : ℕ) → k * 2 ≤ length ns → length ns ≤ k * 2 + 1 →
-      cond (ltb (position_or_len test (first_chunks 2 k ns)) (length (first_chunks 2 k ns))) (Some (i + position_or_len test (first_chunks 2 k ns))) None
-      ≡ first_broken row (links_of ns) i
-  unfolding first_broken links_of
-  pairs_from zero [] i l h = refl
-  pairs_from zero (a ∷ []) i l h = refl
-  pairs_from zero (a ∷ b ∷ ns) i l h = absurd (omega arith)
-  pairs_from (suc k) [] i l h = absurd (omega arith)
-  pairs_from (suc k) (a ∷ []) i l h = absurd (omega arith)
-  pairs_from (suc k) (a ∷ b ∷ ns) i l h = let ih = pairs_from k ns (i + 1) (omega arith) (omega arith) in grind (arith, nat_tests)
+  pub first_holds : (n p : ℕ) → (p ≤ first_from f n p) × (first_from f n p ≤ p + n) × (first_from f n p < p + n → f (first_from f n p) ≡ true)
+      × ((r : ℕ) → p ≤ r → r < first_from f n p → f r ≡ false)
+  unfolding first_from
+  first_holds zero p = (omega arith, omega arith, λ l. absurd (omega arith), λ r a b. absurd (omega arith))
+  first_holds (suc n) p = elim (cases_Bool (f p)) [
+    | inl t ↦ rw t (omega arith, omega arith, λ _. t, λ r a b. absurd (omega arith))
+    | inr t ↦
+        let h = first_holds n (p + 1) in
+        let q : ℕ = first_from f n (p + 1) in
+        let a = h.0 in let b = h.1 in
+        rw t (omega arith, omega arith, λ l. h.2 (omega arith), λ r x y. elim (cases_eq r p) [ inl e ↦ ap f e ∙ t | inr ne ↦ h.3 r (omega arith) y ])
+  ]
 
-  pub pairs_are : (ns : List ℕ) → broken_pair row (first_chunks 2 (length ns / 2) ns) ≡ first_broken row (links_of ns) 0
-  pairs_are ns = let e = pairs_from (length ns / 2) ns 0 (omega arith) (omega arith) in grind arith
+pub next_holds : (m : List ℕ) (p : ℕ) → Next (taken m) p (next_seat m p)
+unfolding next_seat
+next_holds m p =
+    let h = first_holds (taken m) (SEATS_MOST - p) (min p SEATS_MOST) in
+    let a = h.0 in let b = h.1 in
+    record { room = omega arith; here = λ l. h.2 (omega arith); first = λ r x y. h.3 r (omega arith) y; from = λ l. omega arith }
+
+pub next_is : (m : List ℕ) (p q : ℕ) → Next (taken m) p q → q ≡ next_seat m p
+unfolding next_seat
+next_is m p q x = elim (cases_lt q SEATS_MOST) [
+  | inl l ↦
+      let a = x.from l in
+      let e : min p SEATS_MOST ≡ p = omega arith in
+      sym (ap (first_from (taken m) (SEATS_MOST - p)) e ∙ first_is (taken m) (SEATS_MOST - p) p q a (omega arith) (x.here l) x.first)
+  | inr l ↦
+      let a = x.room in
+      sym (first_none (taken m) (SEATS_MOST - p) (min p SEATS_MOST) (λ r b c. x.first r (omega arith) (omega arith)) ∙ omega arith)
+]
+
+-- a taken seat is the next one from itself on
+pub next_here : (m : List ℕ) (p : ℕ) → taken m p ≡ true → Next (taken m) p p
+next_here m p h = record {
+  room = elim (cases_lt p SEATS_MOST) [ inl l ↦ omega arith | inr l ↦ absurd (both_ways (taken m p) (none_past m p l) h) ];
+  here = λ _. h;
+  first = λ r l u. absurd (omega arith);
+  from = λ _. omega arith;
+}

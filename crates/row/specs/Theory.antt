@@ -1,94 +1,48 @@
--- What is proved of boards and commands. Each name is a statement, a type; `src/theory.rt` has a function for each, whose contract it is.
---   CanBe             a link that is not refused can be kept in a row that may be so
---   CanBeFirm         and if it goes backward, in a row where each card that isn't touched keeps its very place
---   OnlyOne           of which there is no other
---   FirmIsLittle      a firm row is a little changed one
---   LeadsOn           what leads where, leads on, and never back
---   LeadsBefore       what leads where stands before it
---   LeadsJust         leads is what links lead to, no less and no more
---   RoundThere        if a link is refused since it would go round, the way can be shown
---   OnlyBetween       in a little changed row only what stands between the two cards may have another place
---   OnlyTouched       in a firm row, of those only what is touched
---   StaysFine         a board that is fine stays fine
---   three             the board of LittleIsLoose: three cards and no link
---   LittleIsLoose     an example: little alone doesn't say what row it has to be, firm does
-use Rattle.std.specs.Prelude.{◌≡◌, ℕ, ◌<◌, ◌≤◌, true, false, ◌⊎◌, List, [], ◌∷◌, Some, None}
-use Rattle.row.specs.declared.board.Command.{Command}
-use Rattle.row.specs.declared.board.Command.TheVariants.{Link as Links}
-use Rattle.row.specs.declared.board.Refusal.TheVariants.{Cycle}
-use Rattle.row.specs.Lists.{has, place}
-use Rattle.row.specs.Board.{Board, ◌⟶◌, linked, keeps, fine, leads}
-use Rattle.row.specs.Commands.{refusal, Told, after, with_link, backward, touched, little, firm, may_be, goes_round}
+-- What is so of the definitions alone. Each is a statement; its proof is asked for by a function of src/theory.rt.
+--
+--   Begins         zeros are a row, with no cards
+--   Apart          no card stands twice
+--   by_slot m ls   the board of the slots in the row, with these links between slots
+--   by_card m ls   the board of the cards in the row, with the same links between cards
+--   SlotsNamed     the board of cards is the board of slots with the cards' numbers for names, if its links are between cards
+--   SameRow m m'   what the row means is the same in two memories
+--   Depends        what the row means depends on the columns of this crate alone: whoever writes beside them leaves it
+use Rattle.std.specs.Prelude.{◌≡◌, ℕ, true, ◌&&◌, List, [], map, replicate}
+use Rattle.memory.specs.declared.column.TheConstants.{MEMORY}
+use Rattle.memory.specs.declared.column.Column.{Column}
+use Rattle.memory.specs.Columns.{cell}
+use Rattle.memory.specs.Footprints.{clear_all, Writes}
+use Rattle.order.specs.declared.board.Link.{Link}
+use Rattle.order.specs.Lists.{every, distinct}
+use Rattle.order.specs.Board.{Board}
+use Rattle.order.specs.Renaming.{named, renamed, Naming}
+use Rattle.row.specs.declared.layout.TheConstants.{IDS}
+use Rattle.row.specs.Columns.{columns}
+use Rattle.row.specs.Meaning.{row_of, cards, used, place_at, IsRow}
 
--- It can always be done: if a link is not refused, there is a row that may be so and with which the board is fine.
-abbrev pub CanBe : Type 0
-CanBe =
-    (r : Board) (a b : ℕ) → fine r ≡ true → refusal r (Links (a ⟶ b)) ≡ None →
-    (row : List ℕ) × (may_be r (Links (a ⟶ b)) row ≡ true) × (fine (record { row = row; links = with_link r a b }) ≡ true)
+abbrev pub Begins : Type 0
+Begins = IsRow (replicate MEMORY 0) × (cards (replicate MEMORY 0) ≡ [])
 
--- And if the link goes backward, there is such a row in which each card that isn't touched keeps its very place.
-abbrev pub CanBeFirm : Type 0
-CanBeFirm =
-    (r : Board) (a b : ℕ) → fine r ≡ true → refusal r (Links (a ⟶ b)) ≡ None → backward r a b ≡ true →
-    (row : List ℕ) × (firm r a b row ≡ true) × (fine (record { row = row; links = with_link r a b }) ≡ true)
+abbrev pub Apart : Type 0
+Apart = (m : List ℕ) → IsRow m → distinct (cards m) ≡ true
 
--- And there is no other: two such rows are one.
-abbrev pub OnlyOne : Type 0
-OnlyOne =
-    (r : Board) (a b : ℕ) (row row₁ : List ℕ) → fine r ≡ true → refusal r (Links (a ⟶ b)) ≡ None → backward r a b ≡ true →
-    firm r a b row ≡ true → keeps row (with_link r a b) ≡ true → firm r a b row₁ ≡ true → keeps row₁ (with_link r a b) ≡ true → row ≡ row₁
+abbrev pub by_slot : List ℕ → List Link → Board
+by_slot m ls = record { row = row_of m; links = ls }
 
--- A firm row is a little changed one.
-abbrev pub FirmIsLittle : Type 0
-FirmIsLittle = (r : Board) (a b : ℕ) (row : List ℕ) → firm r a b row ≡ true → little r a b row ≡ true
+abbrev pub by_card : List ℕ → List Link → Board
+by_card m ls = record { row = cards m; links = map (named (cell m IDS)) ls }
 
--- Each card leads to itself; what is linked to a card leads where that one leads; and two cards that lead to each other are one.
-abbrev pub LeadsOn : Type 0
-LeadsOn =
-    (r : Board) (a b c : ℕ) → fine r ≡ true → has r.row a ≡ true →
-    (leads r a a ≡ true) × (linked r a b ≡ true → leads r b c ≡ true → leads r a c ≡ true) × (leads r a b ≡ true → leads r b a ≡ true → a ≡ b)
+abbrev pub SlotsNamed : Type 0
+SlotsNamed =
+    (m : List ℕ) (ls : List Link) → IsRow m → every (λ l. used m l.from && used m l.to) ls ≡ true →
+    (by_card m ls ≡ renamed (cell m IDS) (by_slot m ls)) × Naming (cell m IDS) (used m) (by_slot m ls)
 
--- A card that leads to another stands before it, or is it.
-abbrev pub LeadsBefore : Type 0
-LeadsBefore =
-    (r : Board) (a b : ℕ) → fine r ≡ true → has r.row a ≡ true → leads r a b ≡ true → place r.row a ≤ place r.row b
+pub record SameRow (m m' : List ℕ) : Type 0 where
+  pub is_row : IsRow m → IsRow m'
+  pub same_cards : cards m' ≡ cards m
+  pub same_row : row_of m' ≡ row_of m
+  pub same_used : (s : ℕ) → used m' s ≡ used m s
+  pub same_places : (s : ℕ) → place_at m' s ≡ place_at m s
 
--- Leads is what links lead to, no less: itself, by a link, by one way and then another; no more: itself, or by a first link and then on. It never leads back,
--- and it goes up in the row. This holds for cards that aren't there too.
-abbrev pub LeadsJust : Type 0
-LeadsJust =
-    (r : Board) (a b c : ℕ) → fine r ≡ true →
-    (leads r a a ≡ true) × (linked r a b ≡ true → leads r a b ≡ true) × (leads r a b ≡ true → leads r b c ≡ true → leads r a c ≡ true)
-    × (leads r a c ≡ true → (a ≡ c) ⊎ ((d : ℕ) × (linked r a d ≡ true) × (leads r d c ≡ true)))
-    × (leads r a b ≡ true → leads r b a ≡ true → a ≡ b) × (leads r a b ≡ true → place r.row a ≤ place r.row b)
-
--- If a link is refused since it would go round, there is a way to be shown.
-abbrev pub RoundThere : Type 0
-RoundThere = (r : Board) (a b : ℕ) → fine r ≡ true → refusal r (Links (a ⟶ b)) ≡ Some Cycle → (w : List ℕ) × (goes_round r a b w ≡ true)
-
--- In a row little changed for a link from a to b, what stood before b or behind a keeps its place.
-abbrev pub OnlyBetween : Type 0
-OnlyBetween =
-    (r : Board) (a b k : ℕ) (row : List ℕ) → fine r ≡ true → little r a b row ≡ true → has r.row k ≡ true →
-    (place r.row k < place r.row b) ⊎ (place r.row a < place r.row k) → place row k ≡ place r.row k
-
--- And in a firm row what isn't touched keeps its place too.
-abbrev pub OnlyTouched : Type 0
-OnlyTouched =
-    (r : Board) (a b k : ℕ) (row : List ℕ) → fine r ≡ true → firm r a b row ≡ true → has r.row k ≡ true →
-    (place r.row k < place r.row b) ⊎ ((place r.row a < place r.row k) ⊎ (touched r a b k ≡ false)) → place row k ≡ place r.row k
-
--- A board that is fine stays fine: after each command that isn't refused, if the row may be so and keeps the links.
-abbrev pub StaysFine : Type 0
-StaysFine =
-    (r : Board) (c : Command) (ts : List Told) → fine r ≡ true → refusal r c ≡ None → may_be r c (after r c ts).row ≡ true →
-    keeps (after r c ts).row (after r c ts).links ≡ true → fine (after r c ts) ≡ true
-
--- Three cards and no link: for a link from the last to the first, little lets the card between, which no link touches, go to the front or to the end.
-abbrev pub three : Board
-three = record { row = 1 ∷ 2 ∷ 3 ∷ []; links = [] }
-
-abbrev pub LittleIsLoose : Type 0
-LittleIsLoose =
-    (little three 3 1 (2 ∷ 3 ∷ 1 ∷ []) ≡ true) × (little three 3 1 (3 ∷ 1 ∷ 2 ∷ []) ≡ true) × (little three 3 1 (3 ∷ 2 ∷ 1 ∷ []) ≡ true)
-    × (firm three 3 1 (2 ∷ 3 ∷ 1 ∷ []) ≡ false) × (firm three 3 1 (3 ∷ 1 ∷ 2 ∷ []) ≡ false) × (firm three 3 1 (3 ∷ 2 ∷ 1 ∷ []) ≡ true)
+abbrev pub Depends : Type 0
+Depends = (fs : List Column) (m m' : List ℕ) → clear_all fs columns ≡ true → Writes fs m m' → SameRow m m'

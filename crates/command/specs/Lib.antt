@@ -1,0 +1,4 @@
+pub mod Commands
+pub mod Staying
+pub mod Week
+pub mod Excluded

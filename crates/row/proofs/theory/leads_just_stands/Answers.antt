@@ -1,5 +1,0 @@
-use Rattle.row.proofs.Leading.{leads_just}
-use Rattle.row.proofs.theory.leads_just_stands.Goals as goal
-
-pub returns : goal.returns
-returns c = leads_just

@@ -1,5 +1,0 @@
-use Rattle.row.proofs.Only.{only_touched}
-use Rattle.row.proofs.theory.only_touched_stands.Goals as goal
-
-pub returns : goal.returns
-returns c = only_touched
