@@ -1,5 +1,5 @@
--- A memory of zeros has no links.
-use Rattle.std.proofs.Common.{◌≡◌, ℕ, ◌+◌, ◌<◌, ◌≤◌, true, eqb, ltb, List, [], length, reverse, replicate, get_or, refl, sym, ap, ◌∙◌, inl, inr, lit<, lit≤, arith}
+-- The columns lie in the memory, and a memory of zeros has no links.
+use Rattle.std.proofs.Common.{◌≡◌, ℕ, ◌+◌, ◌<◌, ◌≤◌, true, eqb, ltb, List, [], length, replicate, get_or, refl, sym, ◌∙◌, inl, inr, lit<, lit≤, arith}
 use Rattle.std.proofs.lemmas.Bool.{cases_Bool, cases_lt}
 use Rattle.std.proofs.lemmas.List.{get_or-replicate, get_or_past, length-replicate}
 use Rattle.memory.specs.declared.column.TheConstants.{MEMORY}
@@ -7,17 +7,19 @@ use Rattle.memory.specs.declared.column.Column.{Column}
 use Rattle.memory.specs.Columns.{cell}
 use Rattle.memory.specs.Footprints.{among, view}
 use Rattle.chains.specs.declared.cells.TheConstants.{CELLS}
-use Rattle.chains.specs.declared.cells.Pointer.{Pointer}
 use Rattle.chains.specs.declared.chain_table.ChainTable.{ChainTable}
 use Rattle.chains.specs.Chains.{Holds}
 use Rattle.chains.specs.Laws.{Begins as EachBegins}
 use Rattle.chains.proofs.Clearing.{begins as each_begins}
-use Rattle.links.specs.declared.layout.TheConstants.{ENTRIES, LIVE, USED, OUT, IN, AGE, ALL, PAIR}
-use Rattle.links.specs.Pairs.{pair, bucket}
-use Rattle.links.specs.Table.{columns, edges, part, aged, TableOf, IsTable}
-use Rattle.links.specs.Laws.{Begins}
+use Rattle.links.specs.declared.layout.TheConstants.{LIVE, USED, OUT, IN, AGE, ALL, PAIR}
+use Rattle.links.specs.Table.{columns, edges, aged, TableOf, IsTable}
+use Rattle.links.specs.Laws.{Lies, Begins}
 use Rattle.links.proofs.Parting.{holds_like}
 use Rattle.links.proofs.Telling.{edges_is}
+
+pub lies : Lies
+unfolding Lies
+lies = (refl, refl)
 
 empty : (F : ChainTable) (m : List ℕ) → F.cells.base + F.cells.size ≤ length m → F.cells.size ≤ CELLS → F.heads < F.cells.size
     → ((i : ℕ) → cell m F.cells i ≡ 0) → Holds F m (λ k. [])

@@ -1,7 +1,7 @@
 -- The table is the same after anything that was written elsewhere.
 use Rattle.std.proofs.Common.{◌≡◌, ℕ, true, cond, List, map, reverse, None, ap}
 use Rattle.memory.specs.declared.column.Column.{Column}
-use Rattle.memory.specs.Footprints.{clear, clear_all, Writes, view}
+use Rattle.memory.specs.Footprints.{clear, clear_all, Writes}
 use Rattle.memory.proofs.Footprints.{kept}
 use Rattle.std.proofs.lemmas.Bool.{and_parts}
 use Rattle.order.specs.declared.board.Link.{Link}

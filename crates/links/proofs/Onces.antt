@@ -1,15 +1,15 @@
 -- Links of which none is there twice.
-use Rattle.std.proofs.Common.{◌≡◌, ℕ, Bool, true, false, not, ◌&&◌, ◌||◌, eqb, List, [], ◌∷◌, ◌++◌, reverse, filter, refl, sym, ap, ◌∙◌, subst, inl, inr, arith}
+use Rattle.std.proofs.Common.{◌≡◌, ℕ, Bool, true, false, not, ◌&&◌, ◌||◌, eqb, List, [], ◌∷◌, ◌++◌, reverse, refl, sym, ap, ◌∙◌, subst, inl, inr, arith}
 use Rattle.std.specs.List.{list_any}
-use Rattle.std.proofs.lemmas.Bool.{cases_Bool, and_parts, and_from, or_parts, not-true, eqb-true}
+use Rattle.std.proofs.lemmas.Bool.{cases_Bool, and_parts, or_parts, not-true, eqb-true}
 use Rattle.std.proofs.lemmas.Bool.Decides.{nat_tests}
 use mathlib.Core.List.{reverse-cons}
 use Rattle.order.specs.declared.board.Link.{Link}
-use Rattle.order.specs.Lists.{any, every, filter as kept}
-use Rattle.links.specs.Pairs.{is_between, joins}
+use Rattle.order.specs.Lists.{any, filter as kept}
+use Rattle.links.specs.Pairs.{joins}
 use Rattle.links.specs.Table.{Entry, once, listed, others}
 use Rattle.links.specs.Laws.{StaysOnce}
-use Rattle.links.proofs.Pairing.{joins_is, joins_from}
+use Rattle.links.proofs.Pairing.{joins_is}
 use Rattle.links.proofs.Filtering.{any_append, any_one, any_reverse}
 use Rattle.links.proofs.Parting.{Apart, listed_first, apart_rest, others_absent}
 use Rattle.links.proofs.Telling.{links_of}

@@ -1,14 +1,11 @@
 -- What the operations do to the table, by their models.
-use Rattle.std.proofs.Common.{◌≡◌, ℕ, suc, ◌+◌, ◌<◌, ◌≤◌, Bool, true, false, cond, not, ◌&&◌, ◌||◌, eqb, ltb, List, [], ◌∷◌, ◌++◌, map, filter, reverse, length, is_some, is_ok, Some, None, Option, Ok, Err, Result, refl, sym, ap, ◌∙◌, subst, ◌⊎◌, inl, inr, lit≤, arith}
-use Rattle.std.specs.List.{list_all, list_any}
+use Rattle.std.proofs.Common.{◌≡◌, ℕ, ◌<◌, ◌≤◌, Bool, true, false, not, ◌&&◌, ◌||◌, eqb, ltb, List, [], ◌∷◌, ◌++◌, map, filter, reverse, length, is_some, is_ok, Some, None, Option, Ok, refl, sym, ap, ◌∙◌, subst, ◌⊎◌, inl, inr, lit≤, arith}
 use Rattle.std.proofs.lemmas.Bool.{cases_Bool, cases_lt, and_parts, and_from, lt-ltb, eq-eqb}
 use Rattle.std.proofs.lemmas.Bool.Decides.{nat_tests}
 use mathlib.Core.List.{reverse-cons}
-use Rattle.memory.specs.Options.{given}
 use Rattle.memory.specs.Footprints.{view}
 use Rattle.order.specs.declared.board.TheConstants.{CARDS}
 use Rattle.order.specs.declared.board.Link.{Link}
-use Rattle.order.specs.declared.board.Refusal.{Refusal}
 use Rattle.order.specs.declared.board.Refusal.TheVariants.{Missing}
 use Rattle.order.specs.Lists.{any, every, filter as kept}
 use Rattle.chains.specs.declared.cells.Pointer.{Pointer}
@@ -17,13 +14,13 @@ use Rattle.chains.specs.Walks.{walked}
 use Rattle.links.specs.declared.layout.TheConstants.{ENTRIES, OUT, IN, AGE, ALL, PAIR}
 use Rattle.links.specs.Pairs.{is_between, pair, bucket, joins}
 use Rattle.links.specs.Entries.{live, free_entry, taken, hung, freed, counted, inserted, sought, found, Outcome, refused, removed, emptied, removed_all}
-use Rattle.links.specs.Table.{columns, edges, Entry, point, part, listed, others, TableOf, IsTable, once}
+use Rattle.links.specs.Table.{columns, edges, Entry, point, part, others, TableOf, IsTable, once}
 use Rattle.links.proofs.Pairing.{between_parts, bucket_below, joins_is}
 use Rattle.links.proofs.Filtering.{filter_both}
 use Rattle.links.proofs.Coming.{all_apart}
 use Rattle.links.proofs.Telling.{links_of, walked_is, all_walked, edges_is, edges_length, edges_any, edges_every, edges_kept, links_filter, links_any, links_every}
 use Rattle.links.proofs.Standing.{table_less, table_less_out, table_less_in}
-use Rattle.links.proofs.Taking.{Took, Taken, taking, table_more}
+use Rattle.links.proofs.Taking.{Took, taking, table_more}
 use Rattle.links.proofs.Onces.{once_turned, at_entry, at_listed, entry_less, kept_all}
 use Rattle.links.proofs.Seeking.{there_is, there_at, none_outside}
 
@@ -245,8 +242,7 @@ module _ (m : List ℕ) (s : ℕ) where
     less_all : s < CARDS → Less
     less_all b =
         let o = table_less_out m A h.table.free h.table.table s b in
-        let i = table_less_in (emptied OUT IN m s) (filter (λ y. not (eqb y.link.from s)) A) o.0 o.1 s b in
-        (
+        let i = table_less_in (emptied OUT IN m s) (filter (λ y. not (eqb y.link.from s)) A) o.0 o.1 s b in (
           i.0,
           subst (λ (n : List ℕ). TableOf (view columns n) (filter (λ y. not (goes y.link)) A) i.0) (sym (removed_all_some b))
               (subst (λ (M : List Entry). TableOf (view columns (emptied IN OUT (emptied OUT IN m s) s)) M i.0) twice i.1),

@@ -2,7 +2,6 @@
 use Rattle.std.proofs.Common.{◌≡◌, ℕ, List, Option, Result, is_some, is_ok, sym, ap, subst, ◌∙◌}
 use Rattle.order.specs.declared.board.Link.{Link}
 use Rattle.order.specs.declared.board.Refusal.{Refusal}
-use Rattle.order.specs.declared.board.Refusal.TheVariants.{Missing}
 use Rattle.links.specs.Entries.{live, inserted, found, Outcome, removed, removed_all}
 use Rattle.links.specs.Table.{edges, IsTable}
 use Rattle.links.specs.Laws.{Counts, Inserts, Finds, Removes, RemovesAll}

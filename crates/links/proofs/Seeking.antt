@@ -1,20 +1,13 @@
 -- A link is found at its entry, if it is there.
-use Rattle.std.proofs.Common.{◌≡◌, ℕ, ◌+◌, ◌<◌, ◌≤◌, Bool, true, false, cond, ◌&&◌, ◌||◌, eqb, List, [], ◌∷◌, map, filter, length, is_some, Some, None, Option, refl, sym, ap, ◌∙◌, subst, inl, inr, lit<, lit≤, arith}
-use Rattle.std.specs.List.{list_all, list_any, find}
-use Rattle.std.specs.Option.{option_map}
-use Rattle.std.proofs.lemmas.Bool.{cases_Bool, cases_eq, and_parts, and_from, eq-eqb, eqb-true, eqb-false}
-use Rattle.std.proofs.lemmas.Bool.Decides.{nat_tests}
-use Rattle.memory.specs.Footprints.{view}
+use Rattle.std.proofs.Common.{◌≡◌, ℕ, true, false, eqb, List, [], ◌∷◌, is_some, Some, Option, refl, sym, ap, ◌∙◌, inl, inr, arith}
+use Rattle.std.specs.List.{list_all, list_any}
+use Rattle.std.proofs.lemmas.Bool.{cases_Bool, and_parts, eq-eqb, eqb-true, eqb-false}
 use Rattle.order.specs.declared.board.Link.{Link}
 use Rattle.order.specs.Lists.{any, every}
-use Rattle.chains.specs.declared.cells.Pointer.{Pointer}
-use Rattle.chains.specs.Walks.{walked}
-use Rattle.links.specs.declared.layout.TheConstants.{ENTRIES, AGE, ALL, PAIR}
 use Rattle.links.specs.Pairs.{is_between, pair, bucket, joins}
-use Rattle.links.specs.Entries.{sought, found}
-use Rattle.links.specs.Table.{columns, edges, Entry, point, part, listed, TableOf}
-use Rattle.links.proofs.Pairing.{pair_same, bucket_below, joins_is, joins_from}
-use Rattle.links.proofs.Telling.{links_of, walked_is, all_walked, edges_any, links_any}
+use Rattle.links.specs.Entries.{sought}
+use Rattle.links.specs.Table.{Entry, part}
+use Rattle.links.proofs.Pairing.{pair_same, joins_is, joins_from}
 use Rattle.links.proofs.Onces.{at_entry}
 
 module _ (x : Link) (b : is_between x ≡ true) where

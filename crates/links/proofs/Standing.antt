@@ -1,31 +1,19 @@
 -- A table stays a table: when a link comes, when one goes, and when all of a slot go.
-use Rattle.std.proofs.Common.{◌≡◌, ℕ, suc, ◌+◌, ◌-◌, ◌*◌, ◌%◌, ◌^◌, ◌<◌, ◌≤◌, true, false, cond, not, ◌&&◌, eqb, ltb, leb, List, [], ◌∷◌, length, filter, Some, None, Option, refl, sym, ap, ◌∙◌, subst, inl, inr, lit<, lit≤, arith}
-use Rattle.std.specs.List.{list_all}
-use Rattle.std.proofs.lemmas.Bool.{cases_Bool, cases_eq, and_from, le-leb, ltb-true, ltb-false, lt-ltb}
-use Rattle.memory.specs.declared.column.Column.{Column}
-use Rattle.memory.specs.Columns.{cell, written}
-use Rattle.memory.specs.Footprints.{Writes, view}
-use Rattle.memory.proofs.Cells.{cell_same}
+use Rattle.std.proofs.Common.{◌≡◌, ℕ, ◌<◌, true, not, eqb, List, [], ◌∷◌, filter, refl, lit≤}
+use Rattle.memory.specs.Footprints.{view}
 use Rattle.order.specs.declared.board.TheConstants.{CARDS}
-use Rattle.order.specs.declared.board.Link.{Link}
 use Rattle.chains.specs.declared.cells.Pointer.{Pointer}
-use Rattle.chains.specs.declared.chain_table.ChainTable.{ChainTable}
-use Rattle.chains.specs.Chains.{Holds, has}
-use Rattle.chains.specs.Tables.{at, unhooked, pushed}
-use Rattle.chains.specs.Walks.{met}
-use Rattle.chains.proofs.Walking.{met_none, met_some}
-use Rattle.chains.proofs.Framing.{holds_kept, unhooked_writes, pushed_writes}
-use Rattle.links.specs.declared.layout.TheConstants.{ENTRIES, LIVE, USED, OUT, IN, AGE, ALL, FREE, PAIR}
-use Rattle.links.specs.Pairs.{is_between, pair, bucket}
-use Rattle.links.specs.Entries.{live, used, free_entry, taken, pointer, hung, freed, counted, inserted, emptied}
-use Rattle.links.specs.Table.{columns, Entry, point, part, aged, listed, others, TableOf}
+use Rattle.chains.specs.Chains.{Holds}
+use Rattle.chains.specs.Tables.{unhooked}
+use Rattle.chains.proofs.Framing.{holds_kept, unhooked_writes}
+use Rattle.links.specs.declared.layout.TheConstants.{LIVE, OUT, IN, AGE, PAIR}
+use Rattle.links.specs.Entries.{pointer, freed, emptied}
+use Rattle.links.specs.Table.{columns, Entry, part, listed, others, TableOf}
 use Rattle.links.proofs.Pairing.{between_parts}
-use Rattle.links.proofs.Parting.{low_lacks, low_lacks_free, low_more, low_more_free}
-use Rattle.links.proofs.Writing.{freed_writes, hung_writes, counted_writes}
-use Rattle.links.proofs.Coming.{came, went}
+use Rattle.links.proofs.Writing.{freed_writes}
+use Rattle.links.proofs.Coming.{went}
 use Rattle.links.proofs.Freeing.{Beside, Side, beside_kept, given_back}
 use Rattle.links.proofs.Dropping.{slot_emptied, slot_beside}
-
 
 pub side_out : Side OUT (λ x. x.from)
 side_out = record {

@@ -1,17 +1,14 @@
 -- An entry is taken for a link, and the link hung up in the chains.
-use Rattle.std.proofs.Common.{◌≡◌, ℕ, suc, ◌+◌, ◌%◌, ◌^◌, ◌<◌, ◌≤◌, true, false, cond, ltb, leb, List, [], ◌∷◌, length, Some, None, refl, sym, ap, ◌∙◌, subst, ◌⊎◌, inl, inr, lit<, lit≤, arith}
+use Rattle.std.proofs.Common.{◌≡◌, ℕ, suc, ◌+◌, ◌%◌, ◌^◌, ◌<◌, ◌≤◌, true, false, ltb, leb, List, [], ◌∷◌, length, Some, None, refl, sym, ◌∙◌, subst, ◌⊎◌, inl, inr, lit<, arith}
 use Rattle.std.specs.List.{list_all}
 use Rattle.std.proofs.lemmas.Bool.{cases_lt, and_parts, and_from, le-leb, leb-true, lt-ltb}
 use Rattle.std.proofs.lemmas.Bool.Decides.{nat_tests}
-use Rattle.memory.specs.Columns.{cell, written}
-use Rattle.memory.specs.Options.{given}
+use Rattle.memory.specs.Columns.{written}
 use Rattle.memory.specs.Footprints.{Writes, view}
 use Rattle.memory.proofs.Cells.{cell_same}
 use Rattle.memory.proofs.Footprints.{put_one}
-use Rattle.order.specs.declared.board.TheConstants.{CARDS}
 use Rattle.order.specs.declared.board.Link.{Link}
 use Rattle.chains.specs.declared.cells.Pointer.{Pointer}
-use Rattle.chains.specs.declared.chain_table.ChainTable.{ChainTable}
 use Rattle.chains.specs.Chains.{Holds, has}
 use Rattle.chains.specs.Tables.{unhooked, pushed}
 use Rattle.chains.specs.Walks.{met}
@@ -19,11 +16,11 @@ use Rattle.chains.proofs.Walking.{met_none, met_some}
 use Rattle.chains.proofs.Framing.{holds_kept, unhooked_writes, pushed_writes}
 use Rattle.links.specs.declared.layout.TheConstants.{ENTRIES, LIVE, USED, OUT, IN, AGE, ALL, FREE, PAIR}
 use Rattle.links.specs.Pairs.{is_between, pair, bucket}
-use Rattle.links.specs.Entries.{live, used, free_entry, taken, pointer, hung, counted}
-use Rattle.links.specs.Table.{columns, Entry, point, part, aged, listed, TableOf}
+use Rattle.links.specs.Entries.{live, used, free_entry, taken, pointer, counted}
+use Rattle.links.specs.Table.{columns, Entry, part, aged, listed, TableOf}
 use Rattle.links.proofs.Pairing.{between_parts, bucket_below, pair_label}
 use Rattle.links.proofs.Parting.{low_lacks, low_more}
-use Rattle.links.proofs.Writing.{hung_writes, counted_writes}
+use Rattle.links.proofs.Writing.{counted_writes}
 use Rattle.links.proofs.Coming.{in_out, in_in, in_age, in_pair, came, came_all, went_free, taken_absent, taken_not_listed}
 
 -- the entry e is taken: a table but for it

@@ -1,8 +1,8 @@
 -- What the chains of a table tell of its links.
-use Rattle.std.proofs.Common.{◌≡◌, ℕ, ◌+◌, ◌<◌, ◌≤◌, Bool, true, false, eqb, List, [], ◌∷◌, map, filter, reverse, length, refl, sym, ap, ap₂, ◌∙◌, subst, inl, inr, lit<, lit≤, arith}
+use Rattle.std.proofs.Common.{◌≡◌, ℕ, ◌+◌, ◌<◌, ◌≤◌, Bool, true, List, [], ◌∷◌, map, filter, reverse, length, refl, ap, ap₂, ◌∙◌, inl, inr, lit<, lit≤}
 use Rattle.std.specs.List.{list_all, list_any}
 use Rattle.std.proofs.lemmas.Bool.{cases_Bool, and_parts}
-use Rattle.std.proofs.lemmas.List.{length-map, length-reverse, reverse-reverse}
+use Rattle.std.proofs.lemmas.List.{length-map, length-reverse}
 use Rattle.memory.specs.Footprints.{view}
 use Rattle.order.specs.declared.board.Link.{Link}
 use Rattle.order.specs.Lists.{every, any, filter as kept}
@@ -12,9 +12,9 @@ use Rattle.chains.specs.Chains.{Holds}
 use Rattle.chains.specs.Walks.{walked}
 use Rattle.chains.specs.Laws.{Reads}
 use Rattle.chains.proofs.Reading.{reads}
-use Rattle.links.specs.declared.layout.TheConstants.{ENTRIES, OUT, IN, AGE, ALL, PAIR}
+use Rattle.links.specs.declared.layout.TheConstants.{ENTRIES, AGE, ALL}
 use Rattle.links.specs.Pairs.{is_between, pair, unpair}
-use Rattle.links.specs.Table.{columns, edges, Entry, point, part, aged, TableOf}
+use Rattle.links.specs.Table.{columns, edges, Entry, point, aged, TableOf}
 use Rattle.links.proofs.Pairing.{unpair_pair}
 use Rattle.links.proofs.Filtering.{any_reverse, every_reverse, kept_reverse}
 

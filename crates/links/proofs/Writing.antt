@@ -2,9 +2,8 @@
 use Rattle.std.proofs.Common.{◌≡◌, ℕ, zero, suc, ◌+◌, ◌-◌, ◌%◌, ◌^◌, ◌<◌, true, cond, ltb, List, [], ◌∷◌, refl, inl, inr, arith}
 use Rattle.std.proofs.lemmas.Bool.{cases_Bool, ltb-true}
 use Rattle.memory.specs.declared.column.Column.{Column}
-use Rattle.memory.specs.Columns.{cell, written}
-use Rattle.memory.specs.Options.{given}
-use Rattle.memory.specs.Footprints.{covered, within, Small, Writes}
+use Rattle.memory.specs.Columns.{written}
+use Rattle.memory.specs.Footprints.{within, Writes}
 use Rattle.memory.proofs.Cells.{small_cell}
 use Rattle.memory.proofs.Footprints.{same, on, less, after, put, either}
 use Rattle.memory.proofs.Options.{given_holds}
@@ -17,7 +16,7 @@ use Rattle.chains.specs.Walks.{met}
 use Rattle.chains.proofs.Framing.{pushed_writes, unhooked_writes, cleared_writes}
 use Rattle.links.specs.declared.layout.TheConstants.{ENTRIES, LIVE, USED, OUT, IN, AGE, ALL, FREE, PAIR}
 use Rattle.links.specs.Pairs.{is_between, pair, bucket}
-use Rattle.links.specs.Entries.{live, used, free_entry, taken, pointer, hung, shelved, freed, counted, inserted, found, Outcome, refused, removed, dropped, emptied, removed_all}
+use Rattle.links.specs.Entries.{live, used, free_entry, taken, pointer, hung, shelved, freed, counted, inserted, found, Outcome, removed, dropped, emptied, removed_all}
 use Rattle.links.specs.Table.{columns}
 
 -- a step of a chain behind what was written
@@ -75,7 +74,7 @@ module _ (m : List ℕ) where
       let fs = LIVE ∷ AGE.cells ∷ PAIR.cells ∷ [] in
       let w = less fs (AGE.cells ∷ PAIR.cells ∷ []) m (shelved m e) refl (shelved_writes m e) in
       put fs m (shelved m e) LIVE 0 (live (shelved m e) - 1) refl
-          (λ s. let b = small_cell (shelved m e) LIVE 0 (w.small s) in omega arith) w
+      (λ s. let b = small_cell (shelved m e) LIVE 0 (w.small s) in omega arith) w
 
 -- a link is put in
 module _ (m : List ℕ) (x : Link) where

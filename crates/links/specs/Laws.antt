@@ -5,15 +5,16 @@
 --   Finds m x o      o says whether the link x is there, and at which entry
 --   Removes m x r m' the link x is there no more, and the others stay, in their order; nothing changes if it wasn't there, and then r says so
 --   RemovesAll m s m' the links out of the slot s and into it are there no more, and the others stay, in their order
+--   Lies             no two columns of the table share a number, and all lie in the memory
 --   Begins           zeros are a table with no links
 --   StaysOnce        no link is there twice: so at first, after a link was put in that wasn't there, and after links were taken out
 --   Gives            a walk along a slot's chain gives the links out of it or into it, just these, the newest first: so what it meets at their other
 --                    ends is what is linked. A walk along the chain of all gives them all
-use Rattle.std.specs.Prelude.{◌≡◌, ℕ, ◌<◌, ◌≤◌, Bool, true, false, not, ◌&&◌, ◌||◌, List, [], ◌∷◌, ◌++◌, map, reverse, length, replicate, is_some, is_ok, Some, Option, Err, Result, ◌==◌, nat_lt}
+use Rattle.std.specs.Prelude.{◌≡◌, ℕ, ◌<◌, ◌≤◌, Bool, true, false, not, ◌&&◌, ◌||◌, List, [], ◌∷◌, ◌++◌, map, reverse, length, replicate, is_some, is_ok, Some, Option, Err, Result, ◌==◌}
 use Rattle.memory.specs.declared.column.TheConstants.{MEMORY}
 use Rattle.memory.specs.declared.column.Column.{Column}
 use Rattle.memory.specs.Columns.{cell}
-use Rattle.memory.specs.Footprints.{among}
+use Rattle.memory.specs.Footprints.{among, all_apart, all_lie}
 use Rattle.order.specs.declared.board.TheConstants.{CARDS}
 use Rattle.order.specs.declared.board.Link.{Link}
 use Rattle.order.specs.declared.board.Refusal.{Refusal}
@@ -46,6 +47,9 @@ Removes m x r m' =
 unfoldable pub RemovesAll : List ℕ → ℕ → List ℕ → Type 0
 RemovesAll m s m' =
     IsTable m → IsTable m' × (edges m' ≡ filter (λ y. not (y.from == s || y.to == s)) (edges m))
+
+unfoldable pub Lies : Type 0
+Lies = (all_apart columns ≡ true) × (all_lie MEMORY columns ≡ true)
 
 unfoldable pub Begins : Type 0
 Begins =

@@ -55,6 +55,6 @@ pub(crate) fn give_back(memory: &mut Memory, entry: u64)
             label: 0,
         },
     );
-    let live = LIVE.get(memory, 0);
+    let live = len(memory);
     LIVE.set(memory, 0, live.saturating_sub(1));
 }

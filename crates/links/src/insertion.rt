@@ -5,7 +5,7 @@ ghost use Rattle.links.specs.Table.{columns};
 ghost use Rattle.links.specs.Entries.{hung, inserted};
 ghost use Rattle.links.specs.Laws.{Inserts};
 
-use crate::entries::take_entry;
+use crate::entries::{len, take_entry};
 use crate::layout::{AGE, ALL, IN, LIVE, OUT, PAIR};
 use crate::pairs::{bucket, is_between, pair};
 use chains::Pointer;
@@ -55,6 +55,6 @@ pub fn insert(memory: &mut Memory, link: Link)
         return;
     };
     hang(memory, link, entry);
-    let live = LIVE.get(memory, 0);
+    let live = len(memory);
     LIVE.set(memory, 0, live.wrapping_add(1));
 }
