@@ -1,17 +1,17 @@
 -- The laws of the row, as the functions that they are about say them.
-use Rattle.std.proofs.Common.{◌≡◌, ℕ, ◌+◌, ◌<◌, ◌≤◌, true, false, cond, ltb, List, length, get_or, set, Some, None, Ok, Err, Option, Result, sym, ap, ◌∙◌, subst}
-use Rattle.order.specs.declared.board.TheConstants.{CARDS}
+use Rattle.std.proofs.Common.{◌≡◌, ℕ, ltb, List, Option, Result, sym, ap, ◌∙◌, subst}
 use Rattle.order.specs.declared.board.Refusal.{Refusal}
-use Rattle.order.specs.Outcomes.{Outcome, refused}
+use Rattle.order.specs.Outcomes.{Outcome}
 use Rattle.memory.specs.Columns.{cell}
-use Rattle.row.specs.declared.layout.TheConstants.{IDS, SLOTS, SEATS}
+use Rattle.row.specs.declared.layout.TheConstants.{SLOTS, SEATS}
 use Rattle.row.specs.Lookup.{found}
-use Rattle.row.specs.Meaning.{count, taken, rank, place_at, cards, used, IsRow}
+use Rattle.row.specs.Meaning.{count, rank, place_at, used}
 use Rattle.row.specs.Moves.{put_at, packed, came, gone, place_found}
 use Rattle.row.specs.Telling.{selected, told, told_count}
 use Rattle.row.specs.Laws.{Came, Comes, Gone, Goes, Counts, Finds, FindsPlace, Places, Orders, Sits, Putting, Packed, Packs, Ranks, Selects, Tells}
 use Rattle.row.proofs.Rows.{seated, order_is, rank_below, slot_is}
-use Rattle.row.proofs.Present.{length_cards, place_slot, slot_used, finds_place, finds}
+use Rattle.row.proofs.Named.{place_slot}
+use Rattle.row.proofs.Present.{length_cards, slot_used, finds_place, finds}
 use Rattle.row.proofs.Again.{packs}
 use Rattle.row.proofs.Coming.{comes_appends}
 use Rattle.row.proofs.Going.{goes_filters}

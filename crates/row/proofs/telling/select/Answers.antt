@@ -1,4 +1,4 @@
-use Rattle.std.proofs.Common.{◌≡◌, ℕ, ◌*◌, ◌-◌, sym, refl, ap, subst, ◌∙◌, arith}
+use Rattle.std.proofs.Common.{◌≡◌, ℕ, ◌*◌, ◌-◌, sym, ap, subst, arith}
 use lib.Count.{ones, ones-le}
 use Rattle.row.specs.declared.layout.TheConstants.{SEATS_MOST, WORDS}
 use Rattle.row.specs.Meaning.{rank}
