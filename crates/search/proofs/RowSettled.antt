@@ -24,7 +24,8 @@ use Rattle.row.specs.Meaning.{count, ending, fresh, free, listed, amount, bit_se
 use Rattle.row.proofs.Listing.{amount_more}
 use Rattle.row.proofs.Along.{amount_before}
 use Rattle.row.proofs.Seatings.{one_seat}
-use Rattle.row.proofs.Present.{used_seat, has_slot, place_slot, few_cards}
+use Rattle.row.proofs.Named.{used_seat, has_slot, place_slot}
+use Rattle.row.proofs.Present.{few_cards}
 use Rattle.links.proofs.Keeping.{table_kept, edges_kept}
 use Rattle.search.specs.declared.layout.TheConstants.{FORE, HIND, CHOSEN}
 use Rattle.search.specs.Columns.{columns, searched, sets}
