@@ -1,6 +1,6 @@
 // How much room is lent to the keeper beside the memory, how many cards are told at once, and where its own columns lie in the lent memory, behind those of
 // `search`.
-use memory::{Column, PAD};
+use memory::Column;
 use order::CARDS;
 use search::HIND;
 
@@ -14,9 +14,14 @@ pub type Output = [u64; OUTPUT];
 // How many cards are told at once.
 pub const TOLD: u64 = 4096;
 
+// Where the columns begin.
+const BASE: u64 = 391000;
+
+const _: () = prove!(HIND.column.base + HIND.column.size <= BASE);
+
 // What is still to come of the last command.
 pub const PENDING: Column = Column {
-    base: HIND.column.base + HIND.column.size + PAD,
+    base: BASE,
     size: 1,
 };
 
