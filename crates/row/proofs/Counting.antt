@@ -1,6 +1,6 @@
 -- The ones of a word are the taken seats of its 64.
-use Rattle.std.proofs.Common.{◌≡◌, ℕ, zero, suc, ◌+◌, ◌-◌, ◌*◌, ◌/◌, ◌%◌, ◌^◌, ◌<◌, ◌≤◌, min, Bool, false, cond, eqb, List, length, get_or, take, drop, length-drop, inl, inr, sym, refl, ap, ◌∙◌, arith}
-use native.Mathlib.Nat.{mod-eq_of_lt, div-eq_of_lt}
+use Rattle.std.proofs.Common.{◌≡◌, ℕ, zero, suc, ◌+◌, ◌-◌, ◌*◌, ◌/◌, ◌%◌, ◌^◌, ◌<◌, ◌≤◌, min, Bool, cond, eqb, List, length, get_or, take, drop, length-drop, inl, inr, sym, refl, ap, ◌∙◌, arith}
+use native.Mathlib.Nat.{mod-eq_of_lt}
 use lib.Bits.{bit_and}
 use lib.Count.{ones, ones_cat}
 use Rattle.std.proofs.lemmas.Nat.{mod-pow-add, and_mask, one_shl, mod_below, pow_pos}
@@ -11,6 +11,7 @@ use Rattle.memory.specs.Columns.{cell}
 use Rattle.row.specs.declared.layout.TheConstants.{SEATS_MOST, WORDS, TAKEN}
 use Rattle.row.specs.Meaning.{digit, bit_set, taken, rank}
 use Rattle.row.proofs.Listing.{amount_more, amount_none, amount_past, amount_le}
+use Rattle.row.proofs.Words.{none_past}
 
 ones_bit : (b : ℕ) → b < 2 → ones b ≡ cond (eqb b 1) 1 0
 unfolding ones
@@ -55,14 +56,6 @@ pub rank_word : (m : List ℕ) (w : ℕ) → cell m TAKEN w < 2 ^ 64 → rank m 
 rank_word m w h =
     let e : (w + 1) * 64 ≡ w * 64 + 64 = omega arith in
     ap (rank m) e ∙ rank_in m w 64 (omega arith) ∙ ap (λ (n : ℕ). rank m (w * 64) + ones n) (mod-eq_of_lt h)
-
--- nothing is taken past the last seat
-pub none_past : (m : List ℕ) (p : ℕ) → SEATS_MOST ≤ p → taken m p ≡ false
-unfolding bit_set cell digit
-none_past m p h =
-    let z : 0 / 2 ^ (p % 64) ≡ 0 = div-eq_of_lt (pow_pos (p % 64)) in
-    let l : WORDS ≤ p / 64 = omega arith in
-    grind (arith, nat_tests)
 
 pub rank_last : (m : List ℕ) (p : ℕ) → rank m (min p SEATS_MOST) ≡ rank m p
 rank_last m p = elim (cases_lt p SEATS_MOST) [

@@ -1,8 +1,8 @@
 pub mod Listing
+pub mod Words
 pub mod Along
 pub mod Counting
 pub mod Turning
-pub mod Words
 pub mod Firsts
 pub mod Halving
 pub mod Steps

@@ -1,5 +1,5 @@
 -- The slots in the row: where they stand, and that the board of cards is the board of slots with other names.
-use Rattle.std.proofs.Common.{◌≡◌, ℕ, zero, suc, ◌+◌, ◌<◌, ◌≤◌, Bool, true, false, cond, ltb, List, [], ◌∷◌, map, length, get_or, refl, ap, ◌∙◌}
+use Rattle.std.proofs.Common.{◌≡◌, ℕ, zero, suc, ◌+◌, ◌<◌, ◌≤◌, Bool, true, false, cond, ltb, List, [], ◌∷◌, length, get_or, refl, ap, ◌∙◌}
 use Rattle.std.proofs.lemmas.Bool.{and_from}
 use Rattle.order.specs.declared.board.TheConstants.{CARDS}
 use Rattle.order.specs.Lists.{every, has, place}
@@ -9,7 +9,6 @@ use Rattle.row.specs.declared.layout.TheConstants.{IDS, CHAIN, SLOTS, SEATS, TAK
 use Rattle.row.specs.Meaning.{listed, count, ending, fresh, free, taken, rank, row_of, cards, used, place_at, Standing, IsRow}
 use Rattle.row.specs.Theory.{SlotsNamed}
 use Rattle.row.proofs.Listing.{listed_none, listed_more}
-use Rattle.row.proofs.Along.{amount_before}
 use Rattle.row.proofs.Rows.{seated, length_row, sitting, at_seat, has_is, place_is, rank_below, slot_is, order_is}
 
 -- every number that is listed passes a test
@@ -61,12 +60,6 @@ module _ (m : List ℕ) (S : IsRow m) where
   -- the order of seats is the order of places
   pub order_slots : (s t : ℕ) → used m s ≡ true → used m t ≡ true → ltb (cell m SEATS s) (cell m SEATS t) ≡ ltb (place (row_of m) s) (place (row_of m) t)
   order_slots = order_is m (seated m S)
-
-pub rank_before : (m : List ℕ) (p q : ℕ) → p < q → taken m p ≡ true → rank m p < rank m q
-rank_before m p q l h = amount_before (taken m) p q l h
-
-pub cards_named : (m : List ℕ) → cards m ≡ map (cell m IDS) (row_of m)
-cards_named m = refl
 
 pub slots_named : SlotsNamed
 slots_named m ls S e = (refl, record { tell = one_slot m S; cards = row_used m S; ends = e })

@@ -11,7 +11,7 @@ use Rattle.row.specs.Telling.{next_seat, selected, tellable, tells, told, told_c
 use Rattle.row.specs.Laws.{Next}
 use Rattle.row.proofs.Listing.{amount_more}
 use Rattle.row.proofs.Along.{amount_gap, amount_at}
-use Rattle.row.proofs.Counting.{none_past}
+use Rattle.row.proofs.Words.{none_past}
 use Rattle.row.proofs.Firsts.{next_holds}
 use Rattle.row.proofs.Halving.{selected_is, selected_none}
 use Rattle.row.proofs.Rows.{seated, slot_is}
