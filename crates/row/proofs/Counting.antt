@@ -10,7 +10,8 @@ use Rattle.std.proofs.lemmas.List.{length-take-le, get_or-take, get_or-drop}
 use Rattle.memory.specs.Columns.{cell}
 use Rattle.row.specs.declared.layout.TheConstants.{SEATS_MOST, WORDS, TAKEN}
 use Rattle.row.specs.Meaning.{digit, bit_set, taken, rank}
-use Rattle.row.proofs.Listing.{amount_more, amount_none, amount_past, amount_le}
+use Rattle.row.proofs.Listing.{amount_more, amount_none, amount_le}
+use Rattle.row.proofs.Along.{amount_gap}
 use Rattle.row.proofs.Words.{none_past}
 
 ones_bit : (b : ℕ) → b < 2 → ones b ≡ cond (eqb b 1) 1 0
@@ -57,13 +58,13 @@ rank_word m w h =
     let e : (w + 1) * 64 ≡ w * 64 + 64 = omega arith in
     ap (rank m) e ∙ rank_in m w 64 (omega arith) ∙ ap (λ (n : ℕ). rank m (w * 64) + ones n) (mod-eq_of_lt h)
 
+pub rank_beyond : (m : List ℕ) (p : ℕ) → SEATS_MOST ≤ p → rank m p ≡ rank m SEATS_MOST
+rank_beyond m p l = amount_gap (taken m) SEATS_MOST p l (λ r u _. none_past m r u)
+
 pub rank_last : (m : List ℕ) (p : ℕ) → rank m (min p SEATS_MOST) ≡ rank m p
 rank_last m p = elim (cases_lt p SEATS_MOST) [
   | inl l ↦ ap (rank m) (omega arith)
-  | inr l ↦
-      let e : min p SEATS_MOST ≡ SEATS_MOST = omega arith in
-      let f : SEATS_MOST + (p - SEATS_MOST) ≡ p = omega arith in
-      ap (rank m) e ∙ sym (amount_past (taken m) SEATS_MOST (p - SEATS_MOST) (none_past m)) ∙ ap (rank m) f
+  | inr l ↦ let e : min p SEATS_MOST ≡ SEATS_MOST = omega arith in ap (rank m) e ∙ sym (rank_beyond m p l)
 ]
 
 -- what the code reads of the last word: the digits below the seat's, by a mask

@@ -17,19 +17,6 @@ bucket_below k = omega arith
 abbrev pub OneSlot : (ℕ → ℕ) → (ℕ → Bool) → Type 0
 OneSlot id live = (s t : ℕ) → live s ≡ true → live t ≡ true → id s ≡ id t → s ≡ t
 
--- the same, of columns that hold the same
-pub chains_same : (next id next' id' : ℕ → ℕ) (live live' : ℕ → Bool) → ((q : ℕ) → next' q ≡ next q) → ((t : ℕ) → id' t ≡ id t) → ((t : ℕ) → live' t ≡ live t) →
-    Chains next id live → Chains next' id' live'
-chains_same next id next' id' live live' x i l c = record {
-  of = c.of;
-  spells = λ b h. spells_move next next' (c.of b) b b (c.spells b h) (x b) (λ t _. x (HEADS + t));
-  once = c.once;
-  holds = λ b t h. c.holds b t h ∙ sym (rw (l t, i t));
-}
-
-pub one_slot_same : (id id' : ℕ → ℕ) (live live' : ℕ → Bool) → ((t : ℕ) → id' t ≡ id t) → ((t : ℕ) → live' t ≡ live t) → OneSlot id live → OneSlot id' live'
-one_slot_same id id' live live' i l o s t p q e = o s t (sym (l s) ∙ p) (sym (l t) ∙ q) (sym (i s) ∙ e ∙ i t)
-
 -- the columns after the card k came into the slot s
 pub record Enters (s k : ℕ) (id next id' next' : ℕ → ℕ) : Type 0 where
   pub id_here : id' s ≡ k
@@ -38,7 +25,7 @@ pub record Enters (s k : ℕ) (id next id' next' : ℕ → ℕ) : Type 0 where
   pub next_here : next' (HEADS + s) ≡ next (bucket k)
   pub next_else : (q : ℕ) → (q ≡ bucket k → ⊥) → (q ≡ HEADS + s → ⊥) → next' q ≡ next q
 
-module _ (s k : ℕ) (id next id' next' : ℕ → ℕ) (live live' : ℕ → Bool) (C : Chains next id live) (A : Enters s k id next id' next')
+module _ {s k : ℕ} {id next id' next' : ℕ → ℕ} {live live' : ℕ → Bool} (C : Chains next id live) (A : Enters s k id next id' next')
     (free : live s ≡ false) (used_is : (t : ℕ) → live' t ≡ (eqb t s || live t)) where
   absent : (b : ℕ) → b < HEADS → has (C.of b) s ≡ false
   absent b l = C.holds b s l ∙ rw free
@@ -96,9 +83,8 @@ module _ (s k : ℕ) (id next id' next' : ℕ → ℕ) (live live' : ℕ → Boo
     ]
   ]
 
--- the columns after the card in the slot s went; h is the pointer that held it
-module _ (s : ℕ) (id next id' next' : ℕ → ℕ) (live live' : ℕ → Bool) (C : Chains next id live) (used : live s ≡ true)
-    (id_same : (t : ℕ) → id' t ≡ id t)
+-- the pointers after the card in the slot s went; one pointer held it
+module _ {s : ℕ} {id next next' : ℕ → ℕ} {live live' : ℕ → Bool} (C : Chains next id live) (used : live s ≡ true)
     (next_here : next' (holder (bucket (id s)) (C.of (bucket (id s))) s) ≡ next (HEADS + s))
     (next_else : (p : ℕ) → (p ≡ holder (bucket (id s)) (C.of (bucket (id s))) s → ⊥) → next' p ≡ next p)
     (used_is : (t : ℕ) → live' t ≡ (live t && not (eqb t s))) where
@@ -111,7 +97,7 @@ module _ (s : ℕ) (id next id' next' : ℕ → ℕ) (live live' : ℕ → Bool)
   own : (b t : ℕ) → b < HEADS → has (C.of b) t ≡ true → bucket (id t) ≡ b
   own b t l h = eqb-true (bucket (id t)) b (and_parts _ _ (sym (C.holds b t l) ∙ h)).1
 
-  pub withdrawn_chains : Chains next' id' live'
+  pub withdrawn_chains : Chains next' id live'
   withdrawn_chains = record {
     of = λ b. cond (eqb b B) (without s (C.of b)) (C.of b);
     spells = λ b l. elim (cases_eq b B) [
@@ -130,22 +116,20 @@ module _ (s : ℕ) (id next id' next' : ℕ → ℕ) (live live' : ℕ → Bool)
     ];
     holds = λ b t l.
         let h = C.holds b t l in
-        let i = id_same t in
         let u = used_is t in
         elim (cases_eq t s) [
           | inl e ↦
-              rw (u, eq-eqb t s e, i) (elim (cases_eq b B) [
+              rw (u, eq-eqb t s e) (elim (cases_eq b B) [
                 | inl j ↦ rw (eq-eqb b B j) (let w = has_filter (λ x. not (eqb x s)) (C.of b) t in let y = eq-eqb t s e in grind arith)
                 | inr j ↦ rw (ne_eqb b B j) (h ∙ let y = ne_eqb (bucket (id t)) b (λ x. j (sym x ∙ ap (λ (v : ℕ). bucket (id v)) e)) in grind arith)
               ])
           | inr e ↦
-              rw (u, ne_eqb t s e, i) (elim (cases_eq b B) [
+              rw (u, ne_eqb t s e) (elim (cases_eq b B) [
                 | inl j ↦ rw (eq-eqb b B j) (let w = has_filter (λ x. not (eqb x s)) (C.of b) t in let y = ne_eqb t s e in grind arith)
                 | inr j ↦ rw (ne_eqb b B j) (h ∙ let z = live t in grind arith)
               ])
         ];
   }
 
-  pub withdrawn_one : OneSlot id live → OneSlot id' live'
-  withdrawn_one o t u p q e =
-      o t u (let v = used_is t in grind arith) (let v = used_is u in grind arith) (sym (id_same t) ∙ e ∙ id_same u)
+  pub withdrawn_one : OneSlot id live → OneSlot id live'
+  withdrawn_one o t u p q e = o t u (let v = used_is t in grind arith) (let v = used_is u in grind arith) e

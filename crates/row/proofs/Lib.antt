@@ -12,7 +12,6 @@ pub mod Freeing
 pub mod Hashing
 pub mod Seeking
 pub mod Framing
-pub mod Sitting
 pub mod Rows
 pub mod Packs
 pub mod Named

@@ -11,16 +11,12 @@ use Rattle.row.specs.Telling.{next_seat, selected, tellable, tells, told, told_c
 use Rattle.row.specs.Laws.{Next}
 use Rattle.row.proofs.Listing.{amount_more}
 use Rattle.row.proofs.Along.{amount_gap, amount_at}
-use Rattle.row.proofs.Words.{none_past}
+use Rattle.row.proofs.Counting.{rank_beyond}
 use Rattle.row.proofs.Firsts.{next_holds}
 use Rattle.row.proofs.Halving.{selected_is, selected_none}
 use Rattle.row.proofs.Rows.{seated, slot_is}
 use Rattle.row.proofs.Named.{standing, length_slots}
 use Rattle.row.proofs.Present.{length_cards, few_cards}
-
--- all that is taken stands below the last seat
-rank_beyond : (m : List ℕ) (p : ℕ) → SEATS_MOST ≤ p → rank m p ≡ rank m SEATS_MOST
-rank_beyond m p l = amount_gap (taken m) SEATS_MOST p l (λ r u _. none_past m r u)
 
 -- past the next taken seat one more is, if there is one
 rank_next : (m : List ℕ) (p q : ℕ) → Next (taken m) p q → rank m p < rank m SEATS_MOST → (q < SEATS_MOST) × (rank m q ≡ rank m p) × (rank m (q + 1) ≡ rank m p + 1)
