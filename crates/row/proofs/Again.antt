@@ -97,7 +97,8 @@ module _ (m : List ℕ) (S : IsRow m) where
   same_tidied = same_choice (ltb (count m) (ending m - count m - SPARE))
 
   pub roomy_so : count m < CARDS →
-      (ending (roomy m) < SEATS_MOST) × (ending m ≤ 2 * count m + SPARE → ending (roomy m) ≤ 2 * count m + SPARE) × (room_turns m + 2 * gaps (roomy m) ≤ 2 * gaps m)
+      (ending (roomy m) < SEATS_MOST) × (ending m ≤ 2 * count m + SPARE → ending (roomy m) ≤ 2 * count m + SPARE)
+      × (room_turns m + 2 * gaps (roomy m) ≤ 2 * gaps m)
   unfolding roomy room_turns
   roomy_so l =
       let a = compacted_tight m S in let c = (same_compacted m S).same_count in

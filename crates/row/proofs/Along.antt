@@ -97,7 +97,8 @@ has_there r f a n l h =
     let e = eq-eqb (r a) (r a) refl in
     rw (listed_split r f a n l h, has_append (listed r f a) (r a ∷ rest r f (a + 1) (n - suc a)) (r a)) (grind arith)
 
-pub place_there : (r : ℕ → ℕ) (f : ℕ → Bool) (a n : ℕ) → a < n → f a ≡ true → ((q : ℕ) → f q ≡ true → r q ≡ r a → q ≡ a) → place (listed r f n) (r a) ≡ amount f a
+pub place_there : (r : ℕ → ℕ) (f : ℕ → Bool) (a n : ℕ) → a < n → f a ≡ true → ((q : ℕ) → f q ≡ true → r q ≡ r a → q ≡ a) →
+    place (listed r f n) (r a) ≡ amount f a
 place_there r f a n l h one =
     let none = has_not r f (r a) a (λ q u y e. let s = one q y e in omega arith) in
     rw (listed_split r f a n l h) (place_split (listed r f a) _ (r a) none ∙ length_listed r f a)

@@ -59,7 +59,8 @@ module _ (m : List ℕ) (s k : ℕ) where
 
   entered_same : (d : Column) → apart IDS d ≡ true → apart CHAIN d ≡ true → cell (entered m s k) d ≡ cell m d
   unfolding entered
-  entered_same d a b = written_same _ CHAIN d (bucket k) (s + 1) b ∙ written_same _ CHAIN d (HEADS + s) (cell m CHAIN (bucket k)) b ∙ written_same m IDS d s k a
+  entered_same d a b =
+      written_same _ CHAIN d (bucket k) (s + 1) b ∙ written_same _ CHAIN d (HEADS + s) (cell m CHAIN (bucket k)) b ∙ written_same m IDS d s k a
 
   enters : TAKEN.base + TAKEN.size ≤ length m → s < CARDS → Enters s k (cell m IDS) (cell m CHAIN) (cell (entered m s k) IDS) (cell (entered m s k) CHAIN)
   unfolding entered
@@ -126,7 +127,9 @@ module _ (m : List ℕ) (k : ℕ) (S : IsRow m) (new : has (cards m) k ≡ false
   m'_same d i j = written_same _ COUNT d 0 (count m + 1) i ∙ written_same _ ENDING d 0 (ending b + 1) j
 
   long_c : TAKEN.base + TAKEN.size ≤ length (seated_at b (ending b) s)
-  long_c = let v = seated_writes b (ending b) s (λ _. omega arith) (λ _. let l = slot_low r in omega arith) in let l = v.as_long in let x = long_b in omega arith
+  long_c =
+      let v = seated_writes b (ending b) s (λ _. omega arith) (λ _. let l = slot_low r in omega arith) in
+      let l = v.as_long in let x = long_b in omega arith
 
   count_m' : count m' ≡ count r + 1
   unfolding arrived joined
@@ -171,13 +174,14 @@ module _ (m : List ℕ) (k : ℕ) (S : IsRow m) (new : has (cards m) k ≡ false
       (enters a s k (let l = w.as_long in let x = long in omega arith) (slot_low r))
 
   fresh_card : (t : ℕ) → used r t ≡ true → cell r IDS t ≡ k → ⊥
-  fresh_card t u i = both_ways (has (cards m) k) new (ap (λ (xs : List ℕ). has xs k) (sym g.same_cards) ∙ ap (has (cards r)) (sym i) ∙ has_card r g.is_row t u)
+  fresh_card t u i = both_ways (has (cards m) k) new (rw (← g.same_cards, ← i) (has_card r g.is_row t u))
 
   pub came_law : Came m k s m'
   came_law =
       let st = standing r g.is_row in
       let e = end_m' in let c = count_m' in let q = roomy_so m S fits in let h = g.same_count in
-      let same : (t : ℕ) → used r t ≡ true → cell m' IDS t ≡ cell r IDS t = λ t u. m'_enters.id_else t (λ z. both_ways (used r s) was_free (ap (used r) (sym z) ∙ u)) in
+      let same : (t : ℕ) → used r t ≡ true → cell m' IDS t ≡ cell r IDS t =
+      λ t u. m'_enters.id_else t (λ z. both_ways (used r s) was_free (ap (used r) (sym z) ∙ u)) in
       let row : row_of m' ≡ row_of r ++ s ∷ [] = rw e (takes_row st.seated takes unused free_end) in
       record {
         is_row = record {
@@ -193,8 +197,8 @@ module _ (m : List ℕ) (k : ℕ) (S : IsRow m) (new : has (cards m) k ≡ false
         };
         cards_are =
             ap (map (cell m' IDS)) row ∙ map_push (cell m' IDS) (row_of r) s
-            ∙ rw (m'_enters.id_here, map_where (cell m' IDS) (cell r IDS) (used r) same (row_of r) (row_used r g.is_row)) (ap (λ (xs : List ℕ). xs ++ k ∷ []) g.same_cards);
-        slots_are = row ∙ ap (λ (xs : List ℕ). xs ++ s ∷ []) g.same_row;
+            ∙ rw (m'_enters.id_here, map_where (cell m' IDS) (cell r IDS) (used r) same (row_of r) (row_used r g.is_row), g.same_cards);
+        slots_are = rw (row, g.same_row);
         is_card = m'_enters.id_here;
         same_cards = λ t u. same t (g.same_used t ∙ u) ∙ g.same_ids t;
         was_free = sym (g.same_used s) ∙ was_free;

@@ -68,7 +68,8 @@ rank_last m p = elim (cases_lt p SEATS_MOST) [
 ]
 
 -- what the code reads of the last word: the digits below the seat's, by a mask
-pub rank_part : (m : List ℕ) (p : ℕ) → rank m (p / 64 * 64) + ones (bit_and (cell m TAKEN (p / 64)) (1 * 2 ^ (p % 64) % 18446744073709551616 - 1)) ≡ rank m p
+pub rank_part : (m : List ℕ) (p : ℕ) →
+    rank m (p / 64 * 64) + ones (bit_and (cell m TAKEN (p / 64)) (1 * 2 ^ (p % 64) % 18446744073709551616 - 1)) ≡ rank m p
 rank_part m p =
     let w = cell m TAKEN (p / 64) in
     let e : p / 64 * 64 + p % 64 ≡ p = omega arith in
@@ -83,7 +84,8 @@ pub rank_zero : (m : List ℕ) → rank m (0 * 64) ≡ 0
 rank_zero m = amount_none (taken m)
 
 -- the words, as a slice of the memory
-pub words_are : (m : List ℕ) (full : ℕ) → full ≤ WORDS → TAKEN.base + TAKEN.size ≤ length m → length (take (TAKEN.base + full - TAKEN.base) (drop TAKEN.base m)) ≡ full
+pub words_are : (m : List ℕ) (full : ℕ) → full ≤ WORDS → TAKEN.base + TAKEN.size ≤ length m →
+    length (take (TAKEN.base + full - TAKEN.base) (drop TAKEN.base m)) ≡ full
 words_are m full h l =
     let e : TAKEN.base + full - TAKEN.base ≡ full = omega arith in
     let d = length-drop TAKEN.base m in

@@ -68,7 +68,8 @@ unfolding packed_from
 packed_from_writes zero m p k l h = put _ _ _ ENDING 0 k refl (λ _. omega arith) (same _ m)
 packed_from_writes (suc f) m p k l h = elim (cases_Bool (taken m p)) [
   | inl y ↦
-      rw y (on _ _ _ _ (less _ _ _ _ refl (drawn_writes m p k (omega arith))) (packed_from_writes f (drawn m p k) (p + 1) (k + 1) (omega arith) (omega arith)))
+      rw y (on _ _ _ _ (less _ _ _ _ refl (drawn_writes m p k (omega arith)))
+      (packed_from_writes f (drawn m p k) (p + 1) (k + 1) (omega arith) (omega arith)))
   | inr y ↦ rw y (packed_from_writes f m (p + 1) k (omega arith) (omega arith))
 ]
 
@@ -101,7 +102,8 @@ module _ (m : List ℕ) (s : ℕ) (low : s < CARDS) where
   pub slot_taken_writes : Writes (FRESH ∷ FREE ∷ []) m (slot_taken m s)
   unfolding slot_taken
   slot_taken_writes =
-      either _ m _ _ _ (put _ _ _ FRESH 0 (s + 1) refl (λ _. omega arith) (same _ m)) (put _ _ _ FREE 0 (cell m SEATS s) refl (small_cell m SEATS s) (same _ m))
+      either _ m _ _ _ (put _ _ _ FRESH 0 (s + 1) refl (λ _. omega arith) (same _ m))
+      (put _ _ _ FREE 0 (cell m SEATS s) refl (small_cell m SEATS s) (same _ m))
 
   pub entered_writes : (k : ℕ) → k < 2 ^ 64 → Writes (IDS ∷ CHAIN ∷ []) m (entered m s k)
   unfolding entered

@@ -11,7 +11,8 @@ stacked_same seat seat' [] t h w = w
 stacked_same seat seat' (x ∷ xs) t h w = (w.0, rw (h x (has_head x xs)) (stacked_same seat seat' xs (seat x) (λ s i. h s (has_tail x xs s i)) w.1))
 
 -- what isn't in use keeps its cell
-pub freed_same : {n f top : ℕ} {seat seat' : ℕ → ℕ} {live : ℕ → Bool} → ((s : ℕ) → live s ≡ false → seat' s ≡ seat s) → Freed n f top seat live → Freed n f top seat' live
+pub freed_same : {n f top : ℕ} {seat seat' : ℕ → ℕ} {live : ℕ → Bool} → ((s : ℕ) → live s ≡ false → seat' s ≡ seat s) →
+    Freed n f top seat live → Freed n f top seat' live
 freed_same {n} {f} {top} {seat} {seat'} {live} e g = record {
   stack = g.stack;
   stacked = stacked_same seat seat' g.stack top (λ s h. e s (g.unused s h).1) g.stacked;

@@ -118,7 +118,8 @@ module _ (m : List ℕ) (S : IsRow m) (s : ℕ) (u : used m s ≡ true) where
       let b = bucket_below (cell m IDS s) in
       let l = long_row m S in
       let d =
-      holder_below ((standing m S).chains.of (bucket (cell m IDS s))) (bucket (cell m IDS s)) s (omega arith) (λ t x. chain_below m S (bucket (cell m IDS s)) t b x) in
+      holder_below ((standing m S).chains.of (bucket (cell m IDS s))) (bucket (cell m IDS s)) s (omega arith)
+      (λ t x. chain_below m S (bucket (cell m IDS s)) t b x) in
       cell_same m CHAIN h (cell m CHAIN (HEADS + s)) d (omega arith)
 
   next_else : (q : ℕ) → (q ≡ h → ⊥) → cell w CHAIN q ≡ cell m CHAIN q

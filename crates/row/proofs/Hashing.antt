@@ -42,7 +42,8 @@ module _ {s k : ℕ} {id next id' next' : ℕ → ℕ} {live live' : ℕ → Boo
       | inr e ↦
           rw (ne_eqb b (bucket k) e)
           (spells_move next next' (C.of b) b b (C.spells b l) (A.next_else b e (λ z. omega arith))
-          (λ t h. A.next_else (HEADS + t) (λ z. let q = bucket_below k in omega arith) (λ z. both_ways (has (C.of b) s) (absent b l) (has_at (C.of b) t s (omega arith) h))))
+          (λ t h. A.next_else (HEADS + t) (λ z. let q = bucket_below k in omega arith)
+          (λ z. both_ways (has (C.of b) s) (absent b l) (has_at (C.of b) t s (omega arith) h))))
     ];
     once = λ b l. elim (cases_eq b (bucket k)) [
       | inl e ↦ rw (eq-eqb b (bucket k) e) (and_from (not (has (C.of b) s)) (distinct (C.of b)) (let q = absent b l in grind arith) (C.once b l))

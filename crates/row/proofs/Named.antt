@@ -14,7 +14,8 @@ use Rattle.row.proofs.Rows.{seated, length_row, sitting, at_seat, has_is, place_
 every_rest : (D : ℕ → Bool) (r : ℕ → ℕ) (f : ℕ → Bool) → ((p : ℕ) → f p ≡ true → D (r p) ≡ true) → (a n : ℕ) → every D (rest r f a n) ≡ true
 unfolding every filter
 every_rest D r f h a zero = refl
-every_rest D r f h a (suc n) = elim (cases_Bool (f a)) [ inl y ↦ rw (y, h a y) (every_rest D r f h (a + 1) n) | inr y ↦ rw y (every_rest D r f h (a + 1) n) ]
+every_rest D r f h a (suc n) =
+    let ih = every_rest D r f h (a + 1) n in elim (cases_Bool (f a)) [ inl y ↦ rw (y, h a y) ih | inr y ↦ rw y ih ]
 
 module _ (m : List ℕ) (S : IsRow m) where
   pub standing : Standing (count m) (ending m) (fresh m) (free m) (cell m IDS) (cell m CHAIN) (cell m SLOTS) (cell m SEATS) (taken m)

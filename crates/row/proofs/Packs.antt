@@ -49,9 +49,13 @@ module _ (m n : List ℕ) (s k : ℕ) (g : Packing m n s k) (h : taken n s ≡ t
     goes : Leaves s (cell n SLOTS s) (cell n SLOTS) (cell n SEATS) (cell n SEATS) (taken n) (taken (unmarked n s))
     goes = record { there = h; slot_at = refl; seat_else = λ j ne. refl; held = taken_unmarked n s low g.kept.keeps.long }
 
-    comes : Takes k (cell n SLOTS s) (cell n SLOTS) (cell n SEATS) (cell (moved n s k) SLOTS) (cell (moved n s k) SEATS) (taken (unmarked n s)) (taken (moved n s k))
+    comes : Takes k (cell n SLOTS s) (cell n SLOTS) (cell n SEATS)
+        (cell (moved n s k) SLOTS) (cell (moved n s k) SEATS) (taken (unmarked n s)) (taken (moved n s k))
     unfolding moved
-    comes = rw (column_same u SLOTS refl, column_same u SEATS refl) at (seated_takes (unmarked n s) k (cell n SLOTS s) (let a = u.as_long in let b = g.kept.keeps.long in omega arith) (let b = low in omega arith) (g.kept.keeps.stands.low s h))
+    comes =
+        let a = u.as_long in let b = g.kept.keeps.long in let c = low in
+        let t = seated_takes (unmarked n s) k (cell n SLOTS s) (omega arith) (omega arith) (g.kept.keeps.stands.low s h) in
+        rw (column_same u SLOTS refl, column_same u SEATS refl) at t
 
     packing_far : Packing m (moved n s k) (s + 1) (k + 1)
     packing_far =
@@ -60,10 +64,14 @@ module _ (m n : List ℕ) (s k : ℕ) (g : Packing m n s k) (h : taken n s ≡ t
         let end = w.others ENDING 0 refl in
         record {
           kept = record {
-            keeps = record { long = let a = w.as_long in let b = g.kept.keeps.long in omega arith; stands = rw (w.others COUNT 0 refl, end) (moved_seating st goes comes l g.gap) };
+            keeps = record {
+              long = let a = w.as_long in let b = g.kept.keeps.long in omega arith;
+              stands = rw (w.others COUNT 0 refl, end) (moved_seating st goes comes l g.gap);
+            };
             same = rw end (moved_row st goes comes l g.gap) ∙ g.kept.same;
             same_used = λ t. moved_used st goes comes l g.gap t ∙ g.kept.same_used t;
-            stays = λ t u. comes.seat_else t (λ e. both_ways (used n t) (g.kept.same_used t ∙ u) (ap (used n) e ∙ at_seat n g.kept.keeps s h)) ∙ g.kept.stays t u;
+            stays = λ t u.
+                comes.seat_else t (λ e. both_ways (used n t) (g.kept.same_used t ∙ u) (rw e (at_seat n g.kept.keeps s h))) ∙ g.kept.stays t u;
           };
           end = rw end g.end;
           full = λ p u. comes.held p ∙ elim (cases_eq p k) [

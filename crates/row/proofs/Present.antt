@@ -102,7 +102,9 @@ distinct_rest r f h a (suc n) = elim (cases_Bool (f a)) [
 -- no card stands twice
 pub apart : (m : List ℕ) → IsRow m → distinct (cards m) ≡ true
 unfolding listed
-apart m S = distinct_map (cell m IDS) (used m) (one_slot m S) (row_of m) (row_used m S) ∙ distinct_rest (cell m SLOTS) (taken m) (one_seat S.stands.seated) 0 (ending m)
+apart m S =
+    distinct_map (cell m IDS) (used m) (one_slot m S) (row_of m) (row_used m S)
+    ∙ distinct_rest (cell m SLOTS) (taken m) (one_seat S.stands.seated) 0 (ending m)
 
 -- a card is found just if it's there, and at its place
 pub finds_place : (m : List ℕ) (k : ℕ) → IsRow m → place_found m k ≡ cond (has (cards m) k) (Some (place (cards m) k)) None

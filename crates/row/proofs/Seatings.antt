@@ -1,5 +1,5 @@
 -- The laws of a row with gaps, over plain functions: a slot that takes a free seat, one that goes, one that moves to a seat before.
-use Rattle.std.proofs.Common.{◌≡◌, ℕ, ◌+◌, ◌-◌, ◌<◌, ◌≤◌, Bool, true, false, not, ◌&&◌, ◌||◌, eqb, List, [], ◌∷◌, ◌++◌, sym, refl, ap, ap₂, ◌∙◌, inl, inr, arith}
+use Rattle.std.proofs.Common.{◌≡◌, ℕ, ◌+◌, ◌-◌, ◌<◌, ◌≤◌, Bool, true, false, not, ◌&&◌, ◌||◌, eqb, [], ◌∷◌, ◌++◌, sym, refl, ap, ◌∙◌, inl, inr, arith}
 use Rattle.std.proofs.lemmas.Bool.{cases_eq, cases_Bool, eq-eqb, ne_eqb, both_ways, lt-ltb}
 use Rattle.order.specs.declared.board.TheConstants.{CARDS}
 use Rattle.order.specs.Lists.{filter}
@@ -38,14 +38,14 @@ module _ {n e b k : ℕ} {r s r' s' : ℕ → ℕ} {f f' : ℕ → Bool} (st : S
   pub takes_row : listed r' f' (b + 1) ≡ listed r f b ++ k ∷ []
   takes_row =
       listed_there r' f' b held_at
-      ∙ ap₂ (λ (xs : List ℕ) (j : ℕ). xs ++ j ∷ []) (listed_same r' r f' f b (λ p l. held_else p (λ i. omega arith)) (λ p l _. x.slot_else p (λ i. omega arith))) x.slot_at
+      ∙ rw (x.slot_at, listed_same r' r f' f b (λ p l. held_else p (λ i. omega arith)) (λ p l _. x.slot_else p (λ i. omega arith)))
 
   pub takes_seating : (e' : ℕ) → e ≤ e' → b < e' → Seating (n + 1) e' r' s' f'
   takes_seating e' l h = record {
     counts =
         let c = st.counts in
         let g = amount_gap f e e' l (λ p i _. free_from st p i) in
-        let w = amount_without f' f b e' held_at (λ p. elim (cases_eq p b) [ inl i ↦ rw (i, free, eq-eqb b b refl, held_at) | inr ne ↦ rw (held_else p ne, ne_eqb p b ne) (let y = f p in grind arith) ]) in
+        let w = amount_without f' f b e' held_at back in
         let t = lt-ltb b e' h in
         grind arith;
     below = λ p y. elim (cases_eq p b) [ inl i ↦ omega arith | inr ne ↦ let u = st.below p (was p ne y) in omega arith ];
@@ -56,6 +56,12 @@ module _ {n e b k : ℕ} {r s r' s' : ℕ → ℕ} {f f' : ℕ → Bool} (st : S
     ];
   }
     where
+      back : (p : ℕ) → f p ≡ (f' p && not (eqb p b))
+      back p = elim (cases_eq p b) [
+        | inl i ↦ rw (i, free, eq-eqb b b refl, held_at)
+        | inr ne ↦ rw (held_else p ne, ne_eqb p b ne) (let y = f p in grind arith)
+      ]
+
       was : (p : ℕ) → (p ≡ b → ⊥) → f' p ≡ true → f p ≡ true
       was p ne y = sym (held_else p ne) ∙ y
 
@@ -134,13 +140,15 @@ module _ {n e a k : ℕ} {r s s' : ℕ → ℕ} {f f' : ℕ → Bool} (st : Seat
         (λ p l u. y.held p ∙ rw (ne_eqb p b (λ i. omega arith)) (stays p (λ i. omega arith))) (λ p l u _. y.slot_else p (λ i. omega arith))
       where
         closed : (p : ℕ) → b + 1 ≤ p → p < a + 1 → f'' p ≡ false
-        closed p l u = y.held p ∙ rw (ne_eqb p b (λ i. omega arith)) (elim (cases_eq p a) [ inl i ↦ ap f' i ∙ off | inr na ↦ stays p na ∙ gap p (omega arith) (omega arith) ])
+        closed p l u = y.held p ∙ rw (ne_eqb p b (λ i. omega arith)) (elim (cases_eq p a) [
+          | inl i ↦ ap f' i ∙ off
+          | inr na ↦ stays p na ∙ gap p (omega arith) (omega arith)
+        ])
 
         to_a : listed r' f'' (a + 1) ≡ listed r f (a + 1)
         to_a =
             gap_to r' f'' (b + 1) (a + 1) (omega arith) closed ∙ takes_row left_seating y nowhere_left free
-            ∙ ap₂ (λ (xs : List ℕ) (j : ℕ). xs ++ j ∷ []) (listed_same r r f' f b (λ p l. stays p (λ i. omega arith)) (λ p l _. refl) ∙ sym (gap_to r f b a (omega arith) gap)) (sym x.slot_at)
-            ∙ sym (listed_there r f a x.there)
+            ∙ rw (listed_there r f a x.there, x.slot_at, gap_to r f b a (omega arith) gap, listed_same r r f' f b (λ p l. stays p (λ i. omega arith)) (λ p l _. refl))
 
     pub moved_seating : Seating n e r' s'' f''
     moved_seating =

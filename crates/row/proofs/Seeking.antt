@@ -1,5 +1,5 @@
 -- A card's entry is sought, in a memory whose pointers spell a chain, and in any.
-use Rattle.std.proofs.Common.{◌≡◌, ℕ, zero, suc, ◌+◌, ◌-◌, ◌<◌, ◌≤◌, true, false, cond, ◌||◌, eqb, ltb, List, [], ◌∷◌, length, Some, None, refl, ap, ◌∙◌, inl, inr, arith}
+use Rattle.std.proofs.Common.{◌≡◌, ℕ, zero, suc, ◌+◌, ◌-◌, ◌<◌, ◌≤◌, true, false, ◌||◌, eqb, ltb, List, [], ◌∷◌, length, Some, None, refl, ap, ◌∙◌, inl, inr, arith}
 use Rattle.std.proofs.lemmas.Bool.Decides.{nat_tests}
 use Rattle.std.proofs.lemmas.Bool.{cases_eq, eq-eqb, ne_eqb, eqb-false, ltb-false, or_parts, cond_both, both_ways}
 use Rattle.order.specs.Lists.{any, has}
@@ -57,5 +57,5 @@ pub sought_low : (f : ℕ) (m : List ℕ) (p k : ℕ) → EntryBelow (sought f m
 unfolding sought
 sought_low zero m p k = tt
 sought_low (suc f) m p k =
-    given_holds (Within CARDS) EntryBelow (followed m p) None (λ s. cond (eqb (cell m IDS s) k) (Some (entry p s)) (sought f m (HEADS + s) k)) (followed_low m p) tt
-    (λ s b. cond_both (eqb (cell m IDS s) k) (Some (entry p s)) (sought f m (HEADS + s) k) EntryBelow (λ _. b) (λ _. sought_low f m (HEADS + s) k))
+    given_holds (Within CARDS) EntryBelow (followed m p) None _ (followed_low m p) tt
+    (λ s b. cond_both (eqb (cell m IDS s) k) _ _ EntryBelow (λ _. b) (λ _. sought_low f m (HEADS + s) k))

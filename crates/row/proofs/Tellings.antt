@@ -73,14 +73,14 @@ module _ (m : List ℕ) (S : IsRow m) where
         let y : taken m q ≡ true = (next_holds m s).here w.0 in
         let j : rank m q ≡ p + i = w.1 ∙ r in
         let g : get_or part i 0 ≡ cell m SLOTS q =
-        get_or-take n (drop p (row_of m)) i 0 (omega arith) ∙ get_or-drop p (row_of m) i 0 ∙ ap (λ (z : ℕ). get_or (row_of m) z 0) (sym j) ∙ slot_is m (seated m S) q y in
+        get_or-take n (drop p (row_of m)) i 0 (omega arith) ∙ get_or-drop p (row_of m) i 0 ∙ rw (← j) (slot_is m (seated m S) q y) in
         tells_rest f (i + 1) (q + 1) (set x i (cell m IDS (cell m SLOTS q))) (omega arith) (let z = w.2 in omega arith)
         (ap (λ (z : ℕ). set x i (cell m IDS z)) (sym g) ∙ front_more (cell m IDS) part o x i (omega arith) (omega arith) t)
 
     tells_all : tells n m (selected m p) 0 o ≡ take n (drop p (cards m)) ++ drop n o
     tells_all =
         tells_rest n 0 (selected m p) o (omega arith) (selected_rank p (omega arith) ∙ omega arith) refl
-        ∙ ap (λ (z : ℕ). map (cell m IDS) part ++ drop z o) length_part ∙ ap (λ (zs : List ℕ). zs ++ drop n o) (sym (ap (take n) (drop-map (cell m IDS) p (row_of m)) ∙ take-map (cell m IDS) n (drop p (row_of m))))
+        ∙ rw (length_part, drop-map (cell m IDS) p (row_of m), take-map (cell m IDS) n (drop p (row_of m)))
 
     can : tellable m p n o ≡ true
     can = let f = few_cards m S in and_from _ _ (le-leb (p + n) (min (count m) CARDS) (omega arith)) (le-leb n (length o) k)
