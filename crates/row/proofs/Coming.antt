@@ -147,9 +147,9 @@ module _ (m : List ℕ) (k : ℕ) (S : IsRow m) (new : has (cards m) k ≡ false
 
   takes : Takes (ending r) s (cell r SLOTS) (cell r SEATS) (cell m' SLOTS) (cell m' SEATS) (taken r) (taken m')
   takes =
-      rw (m'_same SLOTS refl refl, m'_same SEATS refl refl, m'_same TAKEN refl refl,
-      ← b_same SLOTS refl refl refl, ← b_same SEATS refl refl refl, ← b_same TAKEN refl refl refl, ← b_same ENDING refl refl refl)
-      (seated_takes b (ending b) s long_b (let z = end_b in let l = room in omega arith) (slot_low r))
+      rw (m'_same SLOTS refl refl, m'_same SEATS refl refl, m'_same TAKEN refl refl)
+      (rw (← b_same SLOTS refl refl refl, ← b_same SEATS refl refl refl, ← b_same TAKEN refl refl refl, ← b_same ENDING refl refl refl)
+      (seated_takes b (ending b) s long_b (let z = end_b in let l = room in omega arith) (slot_low r)))
 
   slot_is_next : s ≡ next_slot (fresh r) (free r)
   unfolding slot_for

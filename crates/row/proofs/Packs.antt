@@ -108,21 +108,23 @@ packing_all m n s k g h b =
     let size : count n ≡ k = st.counts ∙ amount_gap (taken n) k (ending n) le past ∙ amount_all (taken n) k g.full in
     let end = ending_written n k g.kept.keeps.long (omega arith) in
     let c = written_same n ENDING COUNT 0 k refl in let r = written_same n ENDING SLOTS 0 k refl in
-    let e = written_same n ENDING SEATS 0 k refl in let t = written_same n ENDING TAKEN 0 k refl in
-    (record {
-      keeps = record {
-        long = let l = length_written n ENDING 0 k in let l' = g.kept.keeps.long in omega arith;
-        stands = rw (c, end, r, e, t) record {
-          counts = st.counts ∙ amount_gap (taken n) k (ending n) le past;
-          below = λ p y. elim (cases_lt p k) [ inl l ↦ l | inr l ↦ absurd (both_ways (taken n p) (past p l (st.below p y)) y) ];
-          low = st.low;
-          seat_of = st.seat_of;
+    let e = written_same n ENDING SEATS 0 k refl in let t = written_same n ENDING TAKEN 0 k refl in (
+      record {
+        keeps = record {
+          long = let l = length_written n ENDING 0 k in let l' = g.kept.keeps.long in omega arith;
+          stands = rw (c, end, r, e, t) record {
+            counts = st.counts ∙ amount_gap (taken n) k (ending n) le past;
+            below = λ p y. elim (cases_lt p k) [ inl l ↦ l | inr l ↦ absurd (both_ways (taken n p) (past p l (st.below p y)) y) ];
+            low = st.low;
+            seat_of = st.seat_of;
+          };
         };
-      };
-      same = rw (end, r, t) (sym (gap_to (cell n SLOTS) (taken n) k (ending n) le past)) ∙ g.kept.same;
-      same_used = λ x. rw (r, e, t) (g.kept.same_used x);
-      stays = λ x u. rw e (g.kept.stays x u);
-    }, end ∙ sym (rw c size))
+        same = rw (end, r, t) (sym (gap_to (cell n SLOTS) (taken n) k (ending n) le past)) ∙ g.kept.same;
+        same_used = λ x. rw (r, e, t) (g.kept.same_used x);
+        stays = λ x u. rw e (g.kept.stays x u);
+      },
+      end ∙ sym (rw c size),
+    )
 
 packing_rest : (f : ℕ) (m n : List ℕ) (s k : ℕ) → k ≤ s → ending m ≡ s + f → Packing m n s k → Compacted m (packed_from f n s k)
 unfolding packed_from

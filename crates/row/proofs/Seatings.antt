@@ -1,5 +1,5 @@
 -- The laws of a row with gaps, over plain functions: a slot that takes a free seat, one that goes, one that moves to a seat before.
-use Rattle.std.proofs.Common.{◌≡◌, ℕ, ◌+◌, ◌-◌, ◌<◌, ◌≤◌, Bool, true, false, not, ◌&&◌, ◌||◌, eqb, [], ◌∷◌, ◌++◌, sym, refl, ap, ◌∙◌, inl, inr, arith}
+use Rattle.std.proofs.Common.{◌≡◌, ℕ, ◌+◌, ◌-◌, ◌<◌, ◌≤◌, Bool, true, false, not, ◌&&◌, ◌||◌, eqb, List, [], ◌∷◌, ◌++◌, sym, refl, ap, ◌∙◌, inl, inr, arith}
 use Rattle.std.proofs.lemmas.Bool.{cases_eq, cases_Bool, eq-eqb, ne_eqb, both_ways, lt-ltb}
 use Rattle.order.specs.declared.board.TheConstants.{CARDS}
 use Rattle.order.specs.Lists.{filter}
@@ -148,7 +148,8 @@ module _ {n e a k : ℕ} {r s s' : ℕ → ℕ} {f f' : ℕ → Bool} (st : Seat
         to_a : listed r' f'' (a + 1) ≡ listed r f (a + 1)
         to_a =
             gap_to r' f'' (b + 1) (a + 1) (omega arith) closed ∙ takes_row left_seating y nowhere_left free
-            ∙ rw (listed_there r f a x.there, x.slot_at, gap_to r f b a (omega arith) gap, listed_same r r f' f b (λ p l. stays p (λ i. omega arith)) (λ p l _. refl))
+            ∙ rw (listed_there r f a x.there, x.slot_at, gap_to r f b a (omega arith) gap)
+            (ap (λ (xs : List ℕ). xs ++ k ∷ []) (listed_same r r f' f b (λ p l. stays p (λ i. omega arith)) (λ p l _. refl)))
 
     pub moved_seating : Seating n e r' s'' f''
     moved_seating =
