@@ -143,9 +143,6 @@ listed_set r s f a n l h e =
     listed_split s f a n l h ∙ ap₂ (λ (xs ys : List ℕ). xs ++ s a ∷ ys) front back
     ∙ sym (rw (listed_split r f a n l h) (set_at (listed r f a) (r a) _ (s a) (amount f a) (length_listed r f a)))
 
-pub amount_same : (f g : ℕ → Bool) (n : ℕ) → ((p : ℕ) → f p ≡ g p) → amount f n ≡ amount g n
-amount_same f g n h = ap (λ (t : ℕ → Bool). amount t n) (λ i p. h p i)
-
 -- a number that passes behind so many, if so many pass
 pub amount_at : (f : ℕ → Bool) (e n : ℕ) → n < amount f e → (q : ℕ) × (q < e) × (f q ≡ true) × (amount f q ≡ n)
 amount_at f zero n l = let z = amount_none f in absurd (omega arith)

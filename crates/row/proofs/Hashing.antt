@@ -1,5 +1,5 @@
 -- The cards by number, over any columns: a card comes into a slot, and goes out of one.
-use Rattle.std.proofs.Common.{◌≡◌, ℕ, suc, ◌+◌, ◌<◌, Bool, true, false, cond, not, ◌&&◌, ◌||◌, eqb, ◌∷◌, sym, ap, ◌∙◌, inl, inr, arith}
+use Rattle.std.proofs.Common.{◌≡◌, ℕ, suc, ◌+◌, ◌<◌, Bool, true, false, cond, not, ◌&&◌, ◌||◌, eqb, ◌∷◌, sym, refl, ap, ◌∙◌, inl, inr, arith}
 use Rattle.std.proofs.lemmas.Bool.{cases_eq, eq-eqb, ne_eqb, eqb-true, both_ways, and_from, and_parts}
 use Rattle.order.specs.Lists.{any, has, distinct}
 use Rattle.order.proofs.Filters.{has_filter, distinct_filter}
@@ -46,27 +46,19 @@ module _ {s k : ℕ} {id next id' next' : ℕ → ℕ} {live live' : ℕ → Boo
           (λ z. both_ways (has (C.of b) s) (absent b l) (has_at (C.of b) t s (omega arith) h))))
     ];
     once = λ b l. elim (cases_eq b (bucket k)) [
-      | inl e ↦ rw (eq-eqb b (bucket k) e) (and_from (not (has (C.of b) s)) (distinct (C.of b)) (let q = absent b l in grind arith) (C.once b l))
+      | inl e ↦ rw (eq-eqb b (bucket k) e) (rw (absent b l) (C.once b l))
       | inr e ↦ rw (ne_eqb b (bucket k) e) (C.once b l)
     ];
-    holds = λ b t l.
-        let h = C.holds b t l in
-        let u = used_is t in
-        elim (cases_eq t s) [
-          | inl e ↦
-              let i : id' t ≡ k = ap id' e ∙ A.id_here in
-              let a : has (C.of b) t ≡ false = rw e (absent b l) in
-              rw (u, eq-eqb t s e, i) (elim (cases_eq b (bucket k)) [
-                | inl j ↦ rw (eq-eqb b (bucket k) j, eq-eqb t s e, eq-eqb (bucket k) b (sym j))
-                | inr j ↦ rw (ne_eqb b (bucket k) j, a, ne_eqb (bucket k) b (λ z. j (sym z)))
-              ])
-          | inr e ↦
-              let i : id' t ≡ id t = A.id_else t e in
-              rw (u, ne_eqb t s e, i) (elim (cases_eq b (bucket k)) [
-                | inl j ↦ rw (eq-eqb b (bucket k) j, ne_eqb t s e) h
-                | inr j ↦ rw (ne_eqb b (bucket k) j) h
-              ])
-        ];
+    holds = λ b t l. rw (used_is t) (elim (cases_eq t s) [
+      | inl e ↦ rw (e, eq-eqb s s refl, A.id_here) (elim (cases_eq b (bucket k)) [
+        | inl j ↦ rw (j, eq-eqb (bucket k) (bucket k) refl, eq-eqb s s refl)
+        | inr j ↦ rw (ne_eqb b (bucket k) j, absent b l, ne_eqb (bucket k) b (λ z. j (sym z)))
+      ])
+      | inr e ↦ rw (ne_eqb t s e, A.id_else t e) (elim (cases_eq b (bucket k)) [
+        | inl j ↦ rw (eq-eqb b (bucket k) j, ne_eqb t s e) (C.holds b t l)
+        | inr j ↦ rw (ne_eqb b (bucket k) j) (C.holds b t l)
+      ])
+    ]);
   }
 
   used_else : (t : ℕ) → (t ≡ s → ⊥) → live' t ≡ live t
@@ -115,21 +107,13 @@ module _ {s : ℕ} {id next next' : ℕ → ℕ} {live live' : ℕ → Bool} (C 
       | inl e ↦ rw (eq-eqb b B e) (distinct_filter _ (C.of b) (C.once b l))
       | inr e ↦ rw (ne_eqb b B e) (C.once b l)
     ];
-    holds = λ b t l.
-        let h = C.holds b t l in
-        let u = used_is t in
-        elim (cases_eq t s) [
-          | inl e ↦
-              rw (u, eq-eqb t s e) (elim (cases_eq b B) [
-                | inl j ↦ rw (eq-eqb b B j) (let w = has_filter (λ x. not (eqb x s)) (C.of b) t in let y = eq-eqb t s e in grind arith)
-                | inr j ↦ rw (ne_eqb b B j) (h ∙ let y = ne_eqb (bucket (id t)) b (λ x. j (sym x ∙ ap (λ (v : ℕ). bucket (id v)) e)) in grind arith)
-              ])
-          | inr e ↦
-              rw (u, ne_eqb t s e) (elim (cases_eq b B) [
-                | inl j ↦ rw (eq-eqb b B j) (let w = has_filter (λ x. not (eqb x s)) (C.of b) t in let y = ne_eqb t s e in grind arith)
-                | inr j ↦ rw (ne_eqb b B j) (h ∙ let z = live t in grind arith)
-              ])
-        ];
+    holds = λ b t l. elim (cases_eq b B) [
+      | inl j ↦ rw (eq-eqb b B j, has_filter (λ x. not (eqb x s)) (C.of b) t, C.holds b t l, used_is t) (let z = live t in let y = eqb t s in grind arith)
+      | inr j ↦ rw (ne_eqb b B j, C.holds b t l, used_is t) (elim (cases_eq t s) [
+        | inl e ↦ rw (ne_eqb (bucket (id t)) b (λ x. j (sym x ∙ ap (λ (v : ℕ). bucket (id v)) e))) (let z = live t in grind arith)
+        | inr e ↦ rw (ne_eqb t s e) (let z = live t in grind arith)
+      ])
+    ];
   }
 
   pub withdrawn_one : OneSlot id live → OneSlot id live'
