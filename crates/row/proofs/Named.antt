@@ -1,14 +1,14 @@
 -- The slots in the row: where they stand, and that the board of cards is the board of slots with other names.
-use Rattle.std.proofs.Common.{◌≡◌, ℕ, zero, suc, ◌+◌, ◌<◌, ◌≤◌, Bool, true, ltb, List, length, refl, ◌∙◌, inl, inr}
+use Rattle.std.proofs.Common.{◌≡◌, ℕ, zero, suc, ◌+◌, ◌<◌, ◌≤◌, Bool, true, ltb, List, length, sym, refl, ◌∙◌, inl, inr}
 use Rattle.std.proofs.lemmas.Bool.{cases_Bool}
 use Rattle.order.specs.declared.board.TheConstants.{CARDS}
 use Rattle.order.specs.Lists.{every, filter, has, place}
 use Rattle.memory.specs.Columns.{cell}
 use Rattle.row.specs.declared.layout.TheConstants.{IDS, CHAIN, SLOTS, SEATS, TAKEN}
-use Rattle.row.specs.Meaning.{listed, count, ending, fresh, free, taken, row_of, cards, used, place_at, Standing, IsRow}
+use Rattle.row.specs.Meaning.{listed, count, ending, fresh, free, taken, rank, row_of, used, place_at, Standing, IsRow}
 use Rattle.row.specs.Theory.{SlotsNamed}
 use Rattle.row.proofs.Listing.{rest}
-use Rattle.row.proofs.Rows.{seated, length_row, sitting, at_seat, has_is, place_is, order_is}
+use Rattle.row.proofs.Rows.{seated, length_row, sitting, at_seat, has_is, place_is, placed_is, order_is}
 
 -- every number that is listed passes a test
 every_rest : (D : ℕ → Bool) (r : ℕ → ℕ) (f : ℕ → Bool) → ((p : ℕ) → f p ≡ true → D (r p) ≡ true) → (a n : ℕ) → every D (rest r f a n) ≡ true
@@ -44,8 +44,11 @@ module _ (m : List ℕ) (S : IsRow m) where
   pub has_slot : (s : ℕ) → used m s ≡ true → has (row_of m) s ≡ true
   has_slot s u = has_used s ∙ u
 
+  pub ranked : (s : ℕ) → used m s ≡ true → place_at m s ≡ rank m (cell m SEATS s)
+  ranked s u = placed_is m (seated m S) (cell m SEATS s) (used_seat s u).0
+
   pub place_slot : (s : ℕ) → used m s ≡ true → place (row_of m) s ≡ place_at m s
-  place_slot = place_is m (seated m S)
+  place_slot s u = place_is m (seated m S) s u ∙ sym (ranked s u)
 
   pub length_slots : length (row_of m) ≡ count m
   length_slots = length_row m (seated m S)

@@ -18,7 +18,7 @@ use Rattle.row.proofs.Listing.{rest}
 use Rattle.row.proofs.Along.{rest_not}
 use Rattle.row.proofs.Seatings.{one_seat}
 use Rattle.row.proofs.Rows.{seated, at_seat, rank_below, slot_is}
-use Rattle.row.proofs.Named.{standing, one_slot, used_below, used_seat, row_used, has_used, has_slot, place_slot, length_slots}
+use Rattle.row.proofs.Named.{ranked, standing, one_slot, used_below, used_seat, row_used, has_used, has_slot, place_slot, length_slots}
 
 -- what another name is of, in a list
 named_in : (f : ℕ → ℕ) (xs : List ℕ) (k : ℕ) → has (map f xs) k ≡ true → (s : ℕ) × (has xs s ≡ true) × (f s ≡ k)
@@ -36,8 +36,8 @@ module _ (m : List ℕ) (S : IsRow m) where
   pub used_place : (t : ℕ) → used m t ≡ true → (place_at m t < count m) × (get_or (row_of m) (place_at m t) 0 ≡ t)
   used_place t u =
       let w = used_seat m S t u in
-      let a = rank_below m (seated m S) (cell m SEATS t) w.0 in let l = length_slots m S in
-      (omega arith, slot_is m (seated m S) (cell m SEATS t) w.0 ∙ w.1)
+      let a = rank_below m (seated m S) (cell m SEATS t) w.0 in let l = length_slots m S in let r = ranked m S t u in
+      (omega arith, ap (λ (x : ℕ). get_or (row_of m) x 0) r ∙ slot_is m (seated m S) (cell m SEATS t) w.0 ∙ w.1)
 
   -- their cards
   pub length_cards : length (cards m) ≡ count m

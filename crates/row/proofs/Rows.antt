@@ -1,18 +1,19 @@
 -- The row in the memory: who is in it, and where; a slot takes a seat.
-use Rattle.std.proofs.Common.{◌≡◌, ℕ, ◌+◌, ◌<◌, ◌≤◌, true, false, ◌||◌, eqb, ltb, List, length, get_or, sym, refl, ap, ◌∙◌, subst, inl, inr, arith}
+use Rattle.std.proofs.Common.{◌≡◌, ℕ, ◌+◌, ◌*◌, ◌/◌, ◌<◌, ◌≤◌, true, false, ◌||◌, eqb, ltb, List, length, get_or, sym, refl, ap, ◌∙◌, subst, inl, inr, arith}
 use Rattle.std.proofs.lemmas.Bool.{cases_eq, cases_lt, cases_Bool, both_ways, and_parts, eqb-true, ltb-true, lt-ltb, le-ltb}
 use Rattle.order.specs.declared.board.TheConstants.{CARDS}
 use Rattle.order.specs.Lists.{has, place}
 use Rattle.memory.specs.Columns.{cell, written}
 use Rattle.memory.proofs.Cells.{length_written, cell_same, cell_other, cell_apart}
 use Rattle.row.specs.declared.layout.TheConstants.{SEATS_MOST, ENDING, SLOTS, SEATS, TAKEN}
-use Rattle.row.specs.Meaning.{bit_set, in_use, count, ending, taken, rank, row_of, used, Seating, IsRow}
+use Rattle.row.specs.Meaning.{bit_set, in_use, count, ending, taken, rank, taken_from, placed, row_of, used, Seating, IsRow}
 use Rattle.row.specs.Moves.{put_at, seated_at}
 use Rattle.row.proofs.Turning.{taken_marked}
 use Rattle.row.proofs.Framing.{written_same, marked_writes}
 use Rattle.row.proofs.Listing.{length_listed}
-use Rattle.row.proofs.Along.{has_not, has_there, place_there, get_there, amount_before}
-use Rattle.row.proofs.Seatings.{sits_used, one_seat, Takes}
+use Rattle.row.proofs.Along.{has_not, has_there, place_there, get_there, amount_before, amount_gap}
+use Rattle.row.proofs.Counting.{rank_up}
+use Rattle.row.proofs.Seatings.{sits_used, one_seat, free_from, Takes}
 
 -- the part of a row that speaks of seats
 pub record Seated (m : List ℕ) : Type 0 where
@@ -65,6 +66,17 @@ module _ (m : List ℕ) (sm : Seated m) where
 
   pub rank_below : (p : ℕ) → taken m p ≡ true → rank m p < length (row_of m)
   rank_below p h = let a = amount_before (taken m) p (ending m) (within p h) h in let l = length_listed (cell m SLOTS) (taken m) (ending m) in omega arith
+
+  -- counted from the nearer end it is the same
+  pub placed_is : (p : ℕ) → taken m p ≡ true → placed m p ≡ rank m p
+  unfolding placed taken_from
+  placed_is p h =
+      let e : ending m ≤ (ending m + 63) / 64 * 64 = omega arith in
+      let g = amount_gap (taken m) (ending m) ((ending m + 63) / 64 * 64) e (λ q l _. free_from sm.stands q l) in
+      let c = sm.stands.counts in
+      let w = within p h in
+      let u = rank_up m p ((ending m + 63) / 64 * 64) (omega arith) in
+      elim (cases_lt p (ending m / 2)) [ inl l ↦ rw (lt-ltb p (ending m / 2) l) refl | inr l ↦ rw (le-ltb p (ending m / 2) l) (omega arith) ]
 
   -- the order of seats is the order of places
   pub order_is : (s t : ℕ) → used m s ≡ true → used m t ≡ true → ltb (cell m SEATS s) (cell m SEATS t) ≡ ltb (place (row_of m) s) (place (row_of m) t)

@@ -1,5 +1,5 @@
 -- Seats that are looked for, and cards that are told, one after the other.
-use Rattle.std.proofs.Common.{◌≡◌, ℕ, zero, suc, ◌+◌, ◌<◌, ◌≤◌, min, true, cond, List, ◌++◌, map, length, get_or, take, drop, set, sym, refl, ap, ◌∙◌, inl, inr, add-one, length-drop, arith}
+use Rattle.std.proofs.Common.{◌≡◌, ℕ, zero, suc, ◌+◌, ◌<◌, ◌≤◌, min, true, List, ◌++◌, map, length, get_or, take, drop, set, sym, refl, ap, ◌∙◌, inl, inr, add-one, length-drop, arith}
 use Rattle.std.proofs.lemmas.List.{length-take-le, get_or-take, get_or-drop, take-map, drop-map}
 use Rattle.std.proofs.lemmas.Bool.{cases_lt, cond-true, and_from, le-leb}
 use Rattle.order.specs.declared.board.TheConstants.{CARDS}

@@ -1,4 +1,4 @@
-use Rattle.std.proofs.Common.{◌+◌, ◌-◌, sym, ◌∙◌, arith}
+use Rattle.std.proofs.Common.{sym, ◌∙◌, arith}
 use Rattle.memory.proofs.Footprints.{on}
 use Rattle.row.specs.Meaning.{ending}
 use Rattle.row.proofs.Steps.{packed_taken, packed_free}
