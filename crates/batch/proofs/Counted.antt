@@ -1,14 +1,14 @@
 -- Each answer of the engine comes with the numbers that it speaks of: as many as are shown, and none where nothing is shown or told.
 use Rattle.std.proofs.Common.{Ok, Err, Result, ◌≡◌, ℕ, ◌≤◌, Bool, true, false, cond, eqb, ltb, leb, List, [], length, refl, arith, Option}
 use Rattle.std.proofs.lemmas.Bool.{cond_both}
-use Rattle.row.specs.declared.board.Command.{Command}
-use Rattle.row.specs.declared.board.Command.TheVariants.{Comes, Goes, Link as Links, Unlink as Unlinks, Places}
-use Rattle.row.specs.declared.board.Link.{Link}
-use Rattle.row.specs.declared.board.Refusal.TheVariants.{Cycle}
-use Rattle.row.specs.Columns.{cell}
+use Rattle.command.specs.declared.command.Command.{Command}
+use Rattle.command.specs.declared.command.Command.TheVariants.{Comes, Goes, Link as Links, Unlink as Unlinks, Places}
+use Rattle.order.specs.declared.board.Link.{Link}
+use Rattle.order.specs.declared.board.Refusal.TheVariants.{Cycle}
+use Rattle.memory.specs.Columns.{cell}
 use Rattle.row.specs.Layout.{tally, places}
 use Rattle.row.specs.Moves.{came, gone, place_found}
-use Rattle.row.proofs.Walking.{given_holds}
+use Rattle.memory.proofs.Options.{given_holds}
 use Rattle.links.specs.Entries.{found as entry_found}
 use Rattle.links.specs.Layout.{live}
 use Rattle.links.specs.Removing.{removed}

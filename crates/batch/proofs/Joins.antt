@@ -1,16 +1,17 @@
 -- A link that is tried is put in, with the row as if the link were said alone, or it goes round, and the memory means the same board.
 use Rattle.std.proofs.Common.{◌≡◌, ℕ, ◌<◌, ◌≤◌, true, false, List, [], ◌∷◌, length, Some, None, Option, sym, refl, ap, ◌∙◌, subst, inl, inr, arith}
 use Rattle.std.proofs.lemmas.Bool.{cases_eq, cases_lt, both_ways, eq-eqb, ne_eqb, lt-ltb, le-ltb, and_from}
-use Rattle.row.specs.declared.board.Link.{Link}
-use Rattle.row.specs.declared.board.Command.TheVariants.{Link as Links}
-use Rattle.row.specs.Lists.{any, has, distinct}
-use Rattle.row.specs.Board.{Board, ◌⟶◌, linked, leads}
-use Rattle.row.specs.Commands.{must_be, goes_round, follows, last_of}
-use Rattle.row.specs.Columns.{cell}
+use Rattle.order.specs.declared.board.Link.{Link}
+use Rattle.command.specs.declared.command.Command.TheVariants.{Link as Links}
+use Rattle.order.specs.Lists.{any, has, distinct}
+use Rattle.order.specs.Board.{Board, ◌⟶◌, linked, leads}
+use Rattle.command.specs.Commands.{must_be}
+use Rattle.order.specs.Reordering.{link_must_be, goes_round, follows, last_of}
+use Rattle.memory.specs.Columns.{cell}
 use Rattle.row.specs.Layout.{ids, places}
 use Rattle.row.specs.Meaning.{cards}
-use Rattle.row.proofs.Filters.{same_itself}
-use Rattle.row.proofs.Leading.{leads_just}
+use Rattle.order.proofs.Filters.{same_itself}
+use Rattle.order.proofs.Leading.{leads_just}
 use Rattle.links.specs.Layout.{live}
 use Rattle.links.specs.Entries.{joins as same_link}
 use Rattle.links.specs.Meaning.{edges, once}
@@ -28,7 +29,7 @@ use Rattle.keeper.proofs.Forward.{forward, no_round, put_means}
 use Rattle.keeper.proofs.Moving.{new, is_firm, keeps_all, goes_back, moved_means}
 use Rattle.keeper.proofs.Backward.{forgotten_ready, forgotten_edges, forgotten_tally, forgotten_board, goes}
 use Rattle.keeper.proofs.Opened.{open_keeps}
-use Rattle.row.proofs.Allowed.{Open}
+use Rattle.order.proofs.Allowed.{Open}
 use Rattle.keeper.specs.Reordering.{round_cards}
 use Rattle.batch.specs.Joining.{Joined, put_down, joined_slots, joined}
 use Rattle.batch.specs.Several.{after_link}
@@ -87,7 +88,7 @@ module _ (m : List ℕ) (R : Ready m) (o : once (edges m) ≡ true) (i : pending
 
       -- the first stands first already
       ahead : cell m places s ≤ cell m places t → Either
-      unfolding must_be
+      unfolding must_be link_must_be
       ahead fw =
           let j = put_so fw in
           let z = no_round m R o i l sm s t A B ha hb n ne fw in
@@ -110,7 +111,7 @@ module _ (m : List ℕ) (R : Ready m) (o : once (edges m) ≡ true) (i : pending
 
         -- by what the search finds
         found : (y : Option Link) → (meeting m x).answer ≡ y → Found m m₁ s t y → Either
-        unfolding must_be joined_slots
+        unfolding must_be link_must_be joined_slots
         found (Some y) e T =
             let j = by_slots ∙ rw (lt-ltb _ _ w, e) refl in
             let ld : leads r l.to l.from ≡ true = leads_is m R l.from l.to s t A B ∙ T.round in

@@ -1,13 +1,13 @@
 -- Several links said at once are done or refused rightly.
 use Rattle.std.proofs.Common.{◌≡◌, ℕ, ◌+◌, ◌<◌, ◌≤◌, true, false, leb, ◌≢◌, List, ◌++◌, length, take, Some, None, Option, sym, refl, ap, ◌∙◌, subst, inl, inr, arith, length-append}
 use Rattle.std.proofs.lemmas.Bool.{cases_Bool, cases_lt, both_ways, le-leb, lt-leb, leb-true}
-use Rattle.row.specs.declared.board.Link.{Link}
-use Rattle.row.specs.declared.board.Refusal.{Refusal}
-use Rattle.row.specs.declared.board.Refusal.TheVariants.{Missing, Exists, Cycle, Full}
-use Rattle.row.specs.Lists.{every}
-use Rattle.row.specs.Board.{Board, keeps, fine}
-use Rattle.row.specs.Commands.{told_rows}
-use Rattle.row.proofs.Climbs.{fine_parts}
+use Rattle.order.specs.declared.board.Link.{Link}
+use Rattle.order.specs.declared.board.Refusal.{Refusal}
+use Rattle.order.specs.declared.board.Refusal.TheVariants.{Missing, Exists, Cycle, Full}
+use Rattle.order.specs.Lists.{every}
+use Rattle.order.specs.Board.{Board, keeps, fine}
+use Rattle.command.specs.Commands.{told_rows}
+use Rattle.order.proofs.Climbs.{fine_parts}
 use Rattle.links.specs.Layout.{live}
 use Rattle.links.proofs.Operating.{counts}
 use Rattle.keeper.specs.Engine.{Ran}

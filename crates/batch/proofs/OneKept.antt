@@ -1,13 +1,14 @@
 -- A command, and a row made anew, are done or refused rightly.
 use Rattle.std.proofs.Common.{◌≡◌, ℕ, ◌≤◌, Bool, true, false, cond, ◌&&◌, leb, List, [], ◌∷◌, length, Some, None, arith, length-append}
 use Rattle.std.proofs.lemmas.Bool.{leb-false}
-use Rattle.row.specs.declared.board.Link.{Link}
-use Rattle.row.specs.declared.board.Command.{Command}
-use Rattle.row.specs.declared.board.Command.TheVariants.{Comes, Goes, Link as Links, Unlink as Unlinks, Places}
-use Rattle.row.specs.declared.board.Refusal.TheVariants.{Missing, Exists, Cycle, Full}
-use Rattle.row.specs.Lists.{has, filter}
-use Rattle.row.specs.Board.{Board, ◌⟶◌, linked, leads}
-use Rattle.row.specs.Commands.{refusal, links_after}
+use Rattle.order.specs.declared.board.Link.{Link}
+use Rattle.command.specs.declared.command.Command.{Command}
+use Rattle.command.specs.declared.command.Command.TheVariants.{Comes, Goes, Link as Links, Unlink as Unlinks, Places}
+use Rattle.order.specs.declared.board.Refusal.TheVariants.{Missing, Exists, Cycle, Full}
+use Rattle.order.specs.Lists.{has, filter}
+use Rattle.order.specs.Board.{Board, ◌⟶◌, linked, leads}
+use Rattle.order.specs.Reordering.{link_refusal}
+use Rattle.command.specs.Commands.{refusal, links_after}
 use Rattle.keeper.specs.Promise.{all_small, Refused as KeeperRefused, small_command}
 use Rattle.keeper.specs.Sister.{DoneFirm}
 use Rattle.keeper.proofs.Wholly.{kept}
@@ -27,7 +28,7 @@ room : (w x y z : Bool) → cond w (cond x (Some Exists) (cond y (Some Cycle) (c
 room w x y z e = grind arith
 
 few_after : (r : Board) (c : Command) → refusal r c ≡ None → length r.links ≤ 65536 → length (links_after r c) ≤ 65536
-unfolding refusal links_after
+unfolding refusal link_refusal links_after
 few_after r (Comes k) z h = h
 few_after r (Goes k) z h = rest_few _ r.links h
 few_after r (Links l) z h =

@@ -2,7 +2,7 @@
 use Rattle.std.proofs.Common.{◌≡◌, ℕ, zero, suc, ◌≤◌, true, List, [], length, sym, refl, ◌∙◌, subst, arith}
 use lib.ListN.{length-replicate}
 use Rattle.std.proofs.lemmas.Bool.Decides.{nat_tests as tests}
-use Rattle.row.specs.Commands.{Told}
+use Rattle.command.specs.Commands.{Told}
 use Rattle.keeper.specs.declared.event.Telling.TheVariants.{PassedOver}
 use Rattle.keeper.specs.Answers.{as_told}
 use Rattle.keeper.specs.Own.{step_fits}

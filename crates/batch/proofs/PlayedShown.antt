@@ -3,10 +3,11 @@ use Rattle.std.proofs.Common.{Ok, Err, Result, ◌≡◌, ℕ, zero, suc, ◌≤
 use lib.ListN.{length-replicate}
 use Rattle.std.proofs.lemmas.List.{take_all, take_at}
 use Rattle.std.proofs.lemmas.Bool.{le-leb}
-use Rattle.row.specs.declared.board.Command.TheVariants.{Comes, Goes, Link as Links, Unlink as Unlinks, Places}
-use Rattle.row.specs.declared.board.Refusal.TheVariants.{Cycle}
-use Rattle.row.specs.Board.{Board}
-use Rattle.row.specs.Commands.{refusal, Told}
+use Rattle.command.specs.declared.command.Command.TheVariants.{Comes, Goes, Link as Links, Unlink as Unlinks, Places}
+use Rattle.order.specs.declared.board.Refusal.TheVariants.{Cycle}
+use Rattle.order.specs.Board.{Board}
+use Rattle.order.specs.Reordering.{link_refusal}
+use Rattle.command.specs.Commands.{refusal, Told}
 use Rattle.keeper.specs.declared.event.Act.{Act}
 use Rattle.keeper.specs.declared.event.Reason.{Reason}
 use Rattle.keeper.specs.declared.event.Act.TheVariants.{Tells, Shows, Done}
@@ -89,7 +90,7 @@ done_shows r anew ts row p h t = h.none refl
 
 -- only of links it may be said that they would go round, and then one way is shown
 one_way : (r : Board) (s : Saying) (ss : List (List ℕ)) → refused_for r s ≡ Some Cycle → RoundSo r s ss → (ks : List ℕ) × (ss ≡ ks ∷ [])
-unfolding refusal RoundShown
+unfolding refusal link_refusal RoundShown
 one_way r (one (Comes k)) ss z w = absurd (grind arith)
 one_way r (one (Goes k)) ss z w = absurd (grind arith)
 one_way r (one (Links l)) ss z w = (w.0, w.1)

@@ -2,10 +2,10 @@
 use Rattle.std.proofs.Common.{ℕ, ◌≤◌, ◌+◌, eqb, ltb, leb, List, [], ◌∷◌, length, Some, None, Option, arith}
 use lib.ListN.{length-map}
 use Rattle.std.proofs.lemmas.Bool.{cond_both}
-use Rattle.row.specs.declared.board.Link.{Link}
-use Rattle.row.specs.Columns.{cell}
+use Rattle.order.specs.declared.board.Link.{Link}
+use Rattle.memory.specs.Columns.{cell}
 use Rattle.row.specs.Layout.{ids, places}
-use Rattle.row.proofs.Walking.{given_holds}
+use Rattle.memory.proofs.Options.{given_holds}
 use Rattle.links.specs.Layout.{live}
 use Rattle.search.specs.Layout.{via}
 use Rattle.search.specs.Hunt.{meeting}

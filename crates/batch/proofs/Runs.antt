@@ -2,10 +2,11 @@
 use Rattle.std.proofs.Common.{Ok, ◌≡◌, ℕ, zero, suc, true, leb, List, [], ◌∷◌, length, refl, ap, ◌∙◌, inl, inr, arith}
 use Rattle.std.proofs.lemmas.List.{take_all}
 use Rattle.std.proofs.lemmas.Bool.{cases_Bool, eq-eqb}
-use Rattle.row.specs.declared.board.Command.{Command}
-use Rattle.row.specs.declared.board.Refusal.{Refusal}
-use Rattle.row.specs.declared.board.Refusal.TheVariants.{Missing, Exists, Cycle, Full}
-use Rattle.row.specs.Commands.{number, Told}
+use Rattle.command.specs.declared.command.Command.{Command}
+use Rattle.order.specs.declared.board.Refusal.{Refusal}
+use Rattle.order.specs.declared.board.Refusal.TheVariants.{Missing, Exists, Cycle, Full}
+use Rattle.order.specs.Reordering.{number}
+use Rattle.command.specs.Commands.{Told}
 use Rattle.search.specs.Meaning.{Ready}
 use Rattle.keeper.specs.declared.event.Event.TheVariants.{Said, Next}
 use Rattle.keeper.specs.declared.event.Act.TheVariants.{Shows, Done}

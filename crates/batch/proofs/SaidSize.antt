@@ -2,11 +2,11 @@
 use Rattle.std.proofs.Common.{Ok, ◌≡◌, ℕ, ◌+◌, ◌-◌, ◌<◌, ◌≤◌, min, true, eqb, ltb, leb, List, [], ◌∷◌, length, take, Some, None, Option, arith}
 use lib.ListN.{length-map}
 use Rattle.std.proofs.lemmas.Bool.{and_parts, ltb-true, cond_both}
-use Rattle.row.specs.declared.board.Command.TheVariants.{Link as Links}
-use Rattle.row.specs.declared.board.Link.{Link}
-use Rattle.row.specs.declared.board.Refusal.TheVariants.{Missing, Exists, Full}
-use Rattle.row.specs.Lists.{every}
-use Rattle.row.specs.Columns.{cell}
+use Rattle.command.specs.declared.command.Command.TheVariants.{Link as Links}
+use Rattle.order.specs.declared.board.Link.{Link}
+use Rattle.order.specs.declared.board.Refusal.TheVariants.{Missing, Exists, Full}
+use Rattle.order.specs.Lists.{every}
+use Rattle.memory.specs.Columns.{cell}
 use Rattle.row.specs.Layout.{tally, ids, places}
 use Rattle.links.specs.Layout.{live}
 use Rattle.search.specs.Layout.{via}
@@ -25,8 +25,8 @@ use Rattle.batch.specs.Checking.{all_found, repeated, wider, widened, spanned, m
 use Rattle.batch.specs.Joining.{Joined, joined_slots, joined, Tried, tried, dropped, taken_out}
 use Rattle.batch.specs.Saying.{noting, told_span, part_aside, undone, brought, by_trial, rearranged, said_several}
 use Rattle.batch.specs.Seating.{reseated}
-use Rattle.row.specs.Lookup.{given}
-use Rattle.row.proofs.Walking.{given_holds}
+use Rattle.memory.specs.Options.{given}
+use Rattle.memory.proofs.Options.{given_holds}
 use Rattle.keeper.specs.Answers.{quiet, ends}
 use Rattle.keeper.specs.declared.event.Act.TheVariants.{Done}
 use Rattle.batch.specs.declared.checking.Named.{Named}

@@ -1,9 +1,9 @@
 -- The row put aside is no part of what the memory means: links can be tried from there on.
 use Rattle.std.proofs.Common.{◌≡◌, ℕ, ◌+◌, ◌≤◌, true, false, List, length, refl, ap, ◌∙◌}
-use Rattle.row.specs.declared.board.Link.{Link}
-use Rattle.row.specs.declared.board.Command.TheVariants.{Link as Links}
-use Rattle.row.specs.Lists.{every}
-use Rattle.row.specs.Board.{Board}
+use Rattle.order.specs.declared.board.Link.{Link}
+use Rattle.command.specs.declared.command.Command.TheVariants.{Link as Links}
+use Rattle.order.specs.Lists.{every}
+use Rattle.order.specs.Board.{Board}
 use Rattle.row.specs.Layout.{tally, ids, chain, slots, places}
 use Rattle.links.specs.Meaning.{once}
 use Rattle.search.specs.Layout.{fore, hind}

@@ -1,8 +1,8 @@
 -- How several links are said, way by way.
 use Rattle.std.proofs.Common.{Ok, ◌≡◌, ℕ, ◌<◌, ◌≤◌, List, take, Some, None, refl, Option}
 use Rattle.std.proofs.lemmas.Bool.{le-leb, lt-leb}
-use Rattle.row.specs.declared.board.Link.{Link}
-use Rattle.row.specs.declared.board.Refusal.TheVariants.{Full}
+use Rattle.order.specs.declared.board.Link.{Link}
+use Rattle.order.specs.declared.board.Refusal.TheVariants.{Full}
 use Rattle.links.specs.Layout.{live}
 use Rattle.keeper.specs.declared.event.Act.TheVariants.{Done}
 use Rattle.keeper.specs.Answers.{quiet, ends, refuses}

@@ -1,11 +1,11 @@
 -- The promise, from the memory's meaning that each saying keeps; the memory's length and its small numbers are had for nothing.
 use Rattle.std.proofs.Common.{◌≡◌, ℕ, zero, suc, ◌≤◌, true, eqb, ltb, List, [], ◌∷◌, length, Some, None, refl, ◌∙◌, arith}
 use Rattle.std.proofs.lemmas.Bool.{and_parts, eqb-true}
-use Rattle.row.specs.declared.board.Refusal.{Refusal}
-use Rattle.row.specs.Lists.{every}
-use Rattle.row.specs.Board.{Board}
-use Rattle.row.specs.Commands.{Told}
-use Rattle.row.proofs.Filters.{every_more}
+use Rattle.order.specs.declared.board.Refusal.{Refusal}
+use Rattle.order.specs.Lists.{every}
+use Rattle.order.specs.Board.{Board}
+use Rattle.command.specs.Commands.{Told}
+use Rattle.order.proofs.Filters.{every_more}
 use Rattle.keeper.specs.Promise.{empty, all_small}
 use Rattle.keeper.specs.Sized.{KeepsSize}
 use Rattle.keeper.specs.Meaning.{Means}

@@ -2,12 +2,12 @@
 use Rattle.std.proofs.Common.{◌≡◌, ℕ, ◌<◌, ◌≤◌, min, max, Bool, true, not, ◌&&◌, ◌||◌, ltb, leb, List, [], ◌∷◌, ◌++◌, length, sym, refl, ap, ◌∙◌, subst, inl, inr, arith, is_some, Some}
 use Rattle.std.proofs.lemmas.Bool.Decides.{nat_tests}
 use Rattle.std.proofs.lemmas.Bool.{cases_Bool, both_ways}
-use Rattle.row.specs.declared.board.Link.{Link}
-use Rattle.row.specs.Lists.{every, place}
-use Rattle.row.specs.Board.{Board, keeps}
-use Rattle.row.proofs.Climbs.{fine_parts}
-use Rattle.row.proofs.Filters.{every_append}
-use Rattle.row.proofs.Places.{place_below}
+use Rattle.order.specs.declared.board.Link.{Link}
+use Rattle.order.specs.Lists.{every, place}
+use Rattle.order.specs.Board.{Board, keeps}
+use Rattle.order.proofs.Climbs.{fine_parts}
+use Rattle.order.proofs.Filters.{every_append}
+use Rattle.order.proofs.Places.{place_below}
 use Rattle.row.proofs.Present.{length_cards}
 use Rattle.search.specs.Meaning.{Ready}
 use Rattle.keeper.specs.Meaning.{card_board}

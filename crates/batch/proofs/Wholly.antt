@@ -7,7 +7,7 @@ use Rattle.keeper.specs.declared.event.Reason.TheVariants.{Unfit}
 use Rattle.keeper.specs.Answers.{Answer, quiet, ends, pending}
 use Rattle.keeper.specs.Promise.{Steady as KeeperSteady}
 use Rattle.keeper.specs.Sized.{KeepsSize, fits, small_event}
-use Rattle.row.specs.Lists.{every}
+use Rattle.order.specs.Lists.{every}
 use Rattle.row.specs.Layout.{tally, count}
 use Rattle.keeper.proofs.Size.{small_cell, size_same, size_written}
 use Rattle.keeper.proofs.OwnSize.{size_pending, Sized, sized_cond, sized_then, sized_on, sized_busy, sized_answer, own_steady}

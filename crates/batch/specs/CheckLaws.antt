@@ -8,8 +8,8 @@
 --   Spans          a link goes backward just if the row doesn't keep them all; then what is spanned is the part of the row that the links name
 --   SpanMoves      so of the part of the row that may change: none, or the one that the links name
 use Rattle.std.specs.Prelude.{◌≡◌, ℕ, ◌<◌, ◌≤◌, true, not, List, [], ◌++◌, length, Some, is_some}
-use Rattle.row.specs.declared.board.Link.{Link}
-use Rattle.row.specs.Board.{Board, keeps}
+use Rattle.order.specs.declared.board.Link.{Link}
+use Rattle.order.specs.Board.{Board, keeps}
 use Rattle.keeper.specs.Meaning.{Means}
 use Rattle.batch.specs.declared.seating.Span.{Span}
 use Rattle.batch.specs.Several.{all_there, said_before, first_named, past_named}

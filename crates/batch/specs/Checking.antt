@@ -10,10 +10,10 @@
 --   moving s              the span, if a link goes backward there; None: no place has to change
 --   span m ls             the part of the row that may change for the links; None: none has to
 use Rattle.std.specs.Prelude.{ℕ, ◌+◌, min, max, Bool, false, cond, ◌||◌, List, [], ◌∷◌, ◌++◌, Some, None, Option, is_some, nat_le}
-use Rattle.row.specs.declared.board.Link.{Link}
-use Rattle.row.specs.Columns.{cell}
+use Rattle.order.specs.declared.board.Link.{Link}
+use Rattle.memory.specs.Columns.{cell}
 use Rattle.row.specs.Layout.{places}
-use Rattle.row.specs.Lookup.{given}
+use Rattle.memory.specs.Options.{given}
 use Rattle.links.specs.Entries.{joins, found as entry_found}
 use Rattle.keeper.specs.Linking.{slots_found}
 use Rattle.batch.specs.declared.seating.Span.{Span}

@@ -9,11 +9,12 @@
 --   Joins             of a link that wasn't said before, between cards that are there, one or the other is so, if there's room in the table
 --   Tries             the same of links
 use Rattle.std.specs.Prelude.{◌≡◌, ℕ, ◌+◌, ◌<◌, ◌≤◌, true, false, List, ◌++◌, length, take, Some, None}
-use Rattle.row.specs.declared.board.Link.{Link}
-use Rattle.row.specs.declared.board.Command.TheVariants.{Link as Links}
-use Rattle.row.specs.Lists.{every, has}
-use Rattle.row.specs.Board.{Board, linked, keeps, leads}
-use Rattle.row.specs.Commands.{with_link, must_be, goes_round}
+use Rattle.order.specs.declared.board.Link.{Link}
+use Rattle.command.specs.declared.command.Command.TheVariants.{Link as Links}
+use Rattle.order.specs.Lists.{every, has}
+use Rattle.order.specs.Board.{Board, linked, keeps, leads}
+use Rattle.order.specs.Reordering.{with_link, goes_round}
+use Rattle.command.specs.Commands.{must_be}
 use Rattle.keeper.specs.Promise.{small_command}
 use Rattle.keeper.specs.Meaning.{Means}
 use Rattle.batch.specs.Several.{all_there, after_link, with_links, said_before, closes, Becomes, circle}

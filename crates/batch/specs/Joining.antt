@@ -14,10 +14,10 @@
 --   JoinedSo j out    what a link that was tried comes to is j: done, or the way shown at the front of the output, and the memory after it
 --   TriedSo t out     the same of links that were tried
 use Rattle.std.specs.Prelude.{◌≡◌, ℕ, ◌+◌, cond, List, [], ◌∷◌, length, Some, None, Ok, Err, Option, Result, ◌==◌, nat_lt}
-use Rattle.row.specs.declared.board.Link.{Link}
-use Rattle.row.specs.Columns.{cell}
+use Rattle.order.specs.declared.board.Link.{Link}
+use Rattle.memory.specs.Columns.{cell}
 use Rattle.row.specs.Layout.{places}
-use Rattle.row.specs.Lookup.{given}
+use Rattle.memory.specs.Options.{given}
 use Rattle.links.specs.Building.{inserted}
 use Rattle.links.specs.Removing.{removed}
 use Rattle.search.specs.Hunt.{meeting}

@@ -9,9 +9,9 @@
 --   PlaysShows       of a saying that is done, just what the promise names is shown; of links that would go round, a way by which they would; else nothing
 --   PlaysUnfit       where the memory or the output doesn't fit, the saying is refused, and nothing is changed
 use Rattle.std.specs.Prelude.{◌≡◌, ℕ, ◌≤◌, true, false, ◌≢◌, List, [], ◌∷◌, length, take, Some, None, Ok, Err}
-use Rattle.row.specs.declared.board.Refusal.{Refusal}
-use Rattle.row.specs.declared.board.Refusal.TheVariants.{Cycle}
-use Rattle.row.specs.Board.{Board, keeps}
+use Rattle.order.specs.declared.board.Refusal.{Refusal}
+use Rattle.order.specs.declared.board.Refusal.TheVariants.{Cycle}
+use Rattle.order.specs.Board.{Board, keeps}
 use Rattle.keeper.specs.declared.event.Reason.TheVariants.{Unfit, Board as ByBoard}
 use Rattle.keeper.specs.Promise.{all_small}
 use Rattle.keeper.specs.Own.{step_fits}

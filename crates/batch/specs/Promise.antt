@@ -19,13 +19,14 @@
 --   WholeIn n e        the promise
 --   Fits e             each answer of the engine fits what carries it, whatever stands in its memory
 use Rattle.std.specs.Prelude.{◌≡◌, ℕ, zero, ◌≤◌, Bool, true, ◌≢◌, List, [], ◌∷◌, ◌++◌, length, Some, None, Option, nat_eq}
-use Rattle.row.specs.declared.board.Link.{Link}
-use Rattle.row.specs.declared.board.Command.TheVariants.{Link as Links}
-use Rattle.row.specs.declared.board.Refusal.{Refusal}
-use Rattle.row.specs.declared.board.Refusal.TheVariants.{Cycle}
-use Rattle.row.specs.Lists.{every}
-use Rattle.row.specs.Board.{Board, keeps}
-use Rattle.row.specs.Commands.{number, refusal, Told, told_rows, row_before, links_after, must_be}
+use Rattle.order.specs.declared.board.Link.{Link}
+use Rattle.command.specs.declared.command.Command.TheVariants.{Link as Links}
+use Rattle.order.specs.declared.board.Refusal.{Refusal}
+use Rattle.order.specs.declared.board.Refusal.TheVariants.{Cycle}
+use Rattle.order.specs.Lists.{every}
+use Rattle.order.specs.Board.{Board, keeps}
+use Rattle.order.specs.Reordering.{number}
+use Rattle.command.specs.Commands.{refusal, Told, told_rows, row_before, links_after, must_be}
 use Rattle.keeper.specs.Engine.{Ran}
 use Rattle.keeper.specs.Promise.{empty, all_small, small_command, shown_for, RoundShown}
 use Rattle.keeper.specs.Sister.{within, ToldNeeded}

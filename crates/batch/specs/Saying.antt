@@ -10,9 +10,9 @@
 --   rearranged m ls o     the links tried, with the part of the row put aside
 --   said_several m ls     the links said at once, when nothing is pending
 use Rattle.std.specs.Prelude.{ℕ, ◌-◌, min, cond, List, [], length, take, Ok, Option, nat_le}
-use Rattle.row.specs.declared.board.Link.{Link}
-use Rattle.row.specs.declared.board.Refusal.TheVariants.{Missing, Exists, Full}
-use Rattle.row.specs.Lookup.{given}
+use Rattle.order.specs.declared.board.Link.{Link}
+use Rattle.order.specs.declared.board.Refusal.TheVariants.{Missing, Exists, Full}
+use Rattle.memory.specs.Options.{given}
 use Rattle.links.specs.Layout.{live}
 use Rattle.keeper.specs.declared.event.Act.TheVariants.{Shows, Done}
 use Rattle.keeper.specs.declared.pending.Pending.TheVariants.{Round, More}

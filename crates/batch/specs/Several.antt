@@ -11,13 +11,14 @@
 --   past_named r ls        the place behind the last of these
 --   circle r ks            each of ks is linked to the next, the last to the first, and none is there twice
 use Rattle.std.specs.Prelude.{◌≡◌, ℕ, suc, ◌+◌, min, max, Bool, true, false, cond, ◌&&◌, ◌||◌, List, [], ◌∷◌, ◌++◌, length, Some, None, Option, nat_le}
-use Rattle.row.specs.declared.board.Link.{Link}
-use Rattle.row.specs.declared.board.Command.TheVariants.{Link as Links}
-use Rattle.row.specs.declared.board.Refusal.{Refusal}
-use Rattle.row.specs.declared.board.Refusal.TheVariants.{Missing, Exists, Cycle, Full}
-use Rattle.row.specs.Lists.{every, has, place, distinct}
-use Rattle.row.specs.Board.{Board, linked, keeps, leads}
-use Rattle.row.specs.Commands.{with_link, must_be, follows, last_of}
+use Rattle.order.specs.declared.board.Link.{Link}
+use Rattle.command.specs.declared.command.Command.TheVariants.{Link as Links}
+use Rattle.order.specs.declared.board.Refusal.{Refusal}
+use Rattle.order.specs.declared.board.Refusal.TheVariants.{Missing, Exists, Cycle, Full}
+use Rattle.order.specs.Lists.{every, has, place, distinct}
+use Rattle.order.specs.Board.{Board, linked, keeps, leads}
+use Rattle.order.specs.Reordering.{with_link, follows, last_of}
+use Rattle.command.specs.Commands.{must_be}
 
 abbrev pub all_there : Board → List Link → Bool
 all_there r ls = every (λ l. has r.row l.from && has r.row l.to) ls

@@ -11,10 +11,10 @@
 --                   meant before
 --   UndoesNone      the same where the row stayed as it was, and no part of it was put aside
 use Rattle.std.specs.Prelude.{◌≡◌, ℕ, ◌-◌, ◌≤◌, min, true, List, ◌++◌, length, take, Some, Option}
-use Rattle.row.specs.declared.board.Link.{Link}
-use Rattle.row.specs.declared.board.Command.TheVariants.{Link as Links}
-use Rattle.row.specs.Lists.{every}
-use Rattle.row.specs.Board.{Board}
+use Rattle.order.specs.declared.board.Link.{Link}
+use Rattle.command.specs.declared.command.Command.TheVariants.{Link as Links}
+use Rattle.order.specs.Lists.{every}
+use Rattle.order.specs.Board.{Board}
 use Rattle.keeper.specs.Promise.{small_command}
 use Rattle.keeper.specs.Meaning.{Means}
 use Rattle.batch.specs.declared.seating.Span.{Span}

@@ -6,7 +6,8 @@ ghost use Rattle.batch.specs.Checking.{all_found, known, repeated, widened, wide
 
 use crate::seating::Span;
 use keeper::slots_of;
-use row::{CARDS, Link, place_at};
+use order::{CARDS, Link};
+use row::place_at;
 
 // The places from the first card that some links name to the last; and whether one of the links goes backward. One pass over the links finds both; the span
 // is told only if one of them does.

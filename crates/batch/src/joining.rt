@@ -4,7 +4,8 @@ ghost use Rattle.batch.specs.Joining.{joined_slots, joined, JoinedSo, tried, Tri
 
 use keeper::{Output, slots_of};
 use links::{insert, remove};
-use row::{Link, place_at};
+use order::Link;
+use row::place_at;
 use search::{meet, settle, show_and_forget};
 
 // A link would go round: how many were put in before it, and how many cards at the front of the output are the way.

@@ -9,7 +9,7 @@ ghost use Rattle.batch.specs.Promise.{WholeIn};
 use crate::event::Event;
 use crate::stepping::step_as;
 use keeper::{Played, Telling, play_on};
-use row::Link;
+use order::Link;
 
 // Says what the event says, and goes on until it's at its end; what is told is passed over. Three steps are enough, unless the memory isn't a keeper's. The
 // batch is read only for `Several`. The steps are those of the engine that meets the promise; what is played is then done or refused as the board says, and

@@ -10,7 +10,7 @@ use crate::layout::BATCH;
 use crate::seating::Span;
 use crate::tidying::tidy;
 use keeper::{Act, Event, LINKS, Memory, Output, Pending, Reason, Telling, hear};
-use row::{Link, Refusal};
+use order::{Link, Refusal};
 
 // Tells the part of the row: it is noted as still to come, and the keeper goes on with it.
 #[tactic(auto, unfolding(keeper::specs::Own::answer, crate::specs::Saying::noting))]

@@ -9,7 +9,7 @@ ghost use Rattle.batch.specs.Promise.{WholeIn, Fits};
 use crate::event::Event;
 use crate::saying::{say_anew, say_several};
 use keeper::{Act, Memory, Output, Pending, Reason, Telling};
-use row::Link;
+use order::Link;
 
 // The answer to an event.
 #[tactic(auto, using(keeper::proofs::Writing::writing), unfolding(keeper::specs::Answers::as_told, crate::specs::Own::answer, crate::specs::Own::when_idle, keeper::specs::Answers::still_to_come))]

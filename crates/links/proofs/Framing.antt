@@ -5,7 +5,7 @@ use Rattle.memory.specs.declared.column.Column.{Column}
 use Rattle.order.specs.Lists.{every}
 use Rattle.memory.specs.Columns.{cell, written, apart}
 use Rattle.row.specs.Layout.{tally}
-use Rattle.order.specs.Options.{given}
+use Rattle.memory.specs.Options.{given}
 use Rattle.memory.proofs.Cells.{length_written, cell_other, cell_apart}
 use Rattle.links.specs.declared.chain.Chain.{Chain}
 use Rattle.links.specs.Layout.{pointers, froms, tos}

@@ -1,6 +1,6 @@
 -- The steps of the loops.
 use Rattle.std.proofs.Common.{◌≡◌, ℕ, ◌+◌, ◌-◌, ◌<◌, ◌≤◌, List, Some, None}
-use Rattle.order.specs.Options.{given}
+use Rattle.memory.specs.Options.{given}
 use Rattle.memory.proofs.Fuel.{fuel_step, fuel_end}
 use Rattle.links.specs.declared.chain.Chain.{Chain}
 use Rattle.links.specs.Layout.{heads}

@@ -9,7 +9,7 @@
 use Rattle.std.specs.Prelude.{ℕ, ◌+◌, ◌<◌, Bool, cond, not, List, Some, None, Option, nat_lt}
 use Rattle.memory.specs.Columns.{cell, written}
 use Rattle.row.specs.Chains.{held}
-use Rattle.order.specs.Options.{given}
+use Rattle.memory.specs.Options.{given}
 use Rattle.links.specs.declared.chain.Chain.{Chain}
 use Rattle.links.specs.declared.chain.Meeting.{Meeting}
 use Rattle.links.specs.declared.chain.Meeting.TheVariants.{End, Dead, Living}

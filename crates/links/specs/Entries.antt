@@ -14,7 +14,7 @@ use Rattle.order.specs.Board.{◌⟶◌}
 use Rattle.memory.specs.Columns.{cell, written}
 use Rattle.row.specs.Chains.{spread}
 use Rattle.row.specs.Layout.{tally}
-use Rattle.order.specs.Options.{given}
+use Rattle.memory.specs.Options.{given}
 use Rattle.links.specs.declared.chain.Chain.{Chain}
 use Rattle.links.specs.declared.chain.Chain.TheVariants.{Out, In, Pair}
 use Rattle.links.specs.Layout.{live, froms, tos}

@@ -9,7 +9,7 @@ use Rattle.std.specs.Prelude.{ℕ, zero, suc, ◌+◌, ◌-◌, cond, List, Ok, 
 use Rattle.order.specs.declared.board.Link.{Link}
 use Rattle.order.specs.declared.board.Refusal.TheVariants.{Missing}
 use Rattle.memory.specs.Columns.{written}
-use Rattle.order.specs.Options.{given}
+use Rattle.memory.specs.Options.{given}
 use Rattle.row.specs.Moves.{Outcome, refused}
 use Rattle.links.specs.declared.chain.Chain.{Chain}
 use Rattle.links.specs.declared.chain.Chain.TheVariants.{Out, In}

@@ -1,14 +1,18 @@
 -- The first of two cards that is met in a row stands before the other; the links that numbers spell, as pairs.
-use Rattle.std.proofs.Common.{◌≡◌, ℕ, zero, suc, ◌+◌, ◌*◌, ◌/◌, ◌≤◌, Bool, false, cond, not, ◌||◌, eqb, ltb, List, [], ◌∷◌, length, slice_index, Some, None, refl, arith}
+use Rattle.std.proofs.Common.{◌≡◌, ℕ, zero, suc, ◌+◌, ◌*◌, ◌/◌, ◌≤◌, Bool, false, cond, not, ◌||◌, eqb, ltb, List, [], ◌∷◌, length, slice_index, Some, None, Option, refl, arith}
 use Rattle.std.proofs.lemmas.Bool.Decides.{nat_tests}
 use Rattle.std.specs.List.{find, position_or_len}
 use Rattle.std.specs.Simd.{first_chunks}
 use Rattle.order.specs.Lists.{place}
-use Rattle.order.specs.Options.{given}
 use Rattle.order.specs.Kept.{before, links_of, broken_pair, first_broken}
 
+-- something is met, and it isn't b
+abbrev pub meets_other : Option ℕ → ℕ → Bool
+meets_other None b = false
+meets_other (Some x) b = not (eqb x b)
+
 -- the first of the two decides
-pub first_met : (row : List ℕ) (a b : ℕ) → before row a b ≡ given (find (λ x. eqb x a || eqb x b) row) false (λ x. not (eqb x b))
+pub first_met : (row : List ℕ) (a b : ℕ) → before row a b ≡ meets_other (find (λ x. eqb x a || eqb x b) row) b
 unfolding before place
 first_met [] a b = refl
 first_met (x ∷ row) a b = let ih = first_met row a b in grind (arith, nat_tests)

@@ -1,7 +1,6 @@
 pub mod Places
 pub mod Filters
 pub mod Members
-pub mod Options
 pub mod Ahead
 pub mod Parts
 pub mod Refill

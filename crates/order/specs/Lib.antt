@@ -1,5 +1,4 @@
 pub mod Lists
-pub mod Options
 pub mod Board
 pub mod Reordering
 pub mod Theory

@@ -8,9 +8,9 @@ use Rattle.row.specs.declared.chains.Entry.{Entry}
 use Rattle.memory.specs.declared.column.Column.{Column}
 use Rattle.memory.specs.Columns.{cell}
 use Rattle.row.specs.Chains.{held}
-use Rattle.order.specs.Options.{given}
+use Rattle.memory.specs.Options.{given}
 use Rattle.row.specs.Lookup.{entry}
-use Rattle.order.proofs.Options.{given_holds}
+use Rattle.memory.proofs.Options.{given_holds}
 use Rattle.row.specs.Walks.{walked}
 
 module _ (c : Column) (h n : ℕ) (m : List ℕ) (p : ℕ) where

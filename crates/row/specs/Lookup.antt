@@ -9,7 +9,7 @@
 --   withdrawn m e    the memory after an entry was taken out of its chain
 use Rattle.std.specs.Prelude.{ℕ, zero, suc, ◌+◌, ◌/◌, ◌<◌, cond, List, Some, None, Option, ◌==◌}
 use Rattle.row.specs.declared.chains.Entry.{Entry}
-use Rattle.order.specs.Options.{given}
+use Rattle.memory.specs.Options.{given}
 use Rattle.memory.specs.Columns.{cell, written}
 use Rattle.row.specs.Chains.{spread, held}
 use Rattle.row.specs.Layout.{ids, chain}

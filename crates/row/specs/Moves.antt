@@ -18,7 +18,7 @@ use Rattle.order.specs.declared.board.Refusal.{Refusal}
 use Rattle.order.specs.declared.board.Refusal.TheVariants.{Missing, Exists, Full}
 use Rattle.memory.specs.Columns.{cell, written}
 use Rattle.row.specs.Layout.{tally, slots, places, count, fresh}
-use Rattle.order.specs.Options.{given}
+use Rattle.memory.specs.Options.{given}
 use Rattle.row.specs.Lookup.{bucket, sought, found, entered, withdrawn}
 
 pub record Outcome : Type 0 where

@@ -7,7 +7,7 @@ use Rattle.memory.specs.declared.column.Column.{Column}
 use Rattle.row.specs.declared.chains.Entry.{Entry}
 use Rattle.row.specs.declared.walk.Walk.{Walk}
 use Rattle.row.specs.Chains.{held}
-use Rattle.order.specs.Options.{given}
+use Rattle.memory.specs.Options.{given}
 
 unfoldable pub walked : ℕ → Column → ℕ → ℕ → List ℕ → ℕ → List Entry
 walked zero c h n m p = []
