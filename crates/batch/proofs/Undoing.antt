@@ -24,7 +24,7 @@ use Rattle.batch.proofs.Beside.{beside_on}
 use Rattle.batch.proofs.TriedFrames.{Else, Spared, spared_tried, spared_taken_out}
 use Rattle.batch.proofs.TakingOut.{takes_out}
 use Rattle.batch.proofs.SeatedBack.{row_count, Aside, seated_back}
-use Rattle.batch.specs.Listing.{at_each}
+use Rattle.memory.specs.Footprints.{at_each}
 
 first_within : (r : Board) (ls : List Link) → first_named r ls ≤ length r.row
 unfolding first_named

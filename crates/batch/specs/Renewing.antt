@@ -14,6 +14,7 @@
 --   drawn m p i         the slot at the place p comes, after i others
 --   Renewed             the memory after the row was made anew, and how many came
 --   renewing f m i      at most f more come, after i others
+--   drawn_all m         all come that do
 --   renewed m           the row made anew
 use Rattle.std.specs.Prelude.{ℕ, zero, suc, ◌+◌, ◌-◌, ◌^◌, ◌/◌, ◌%◌, min, cond, List, ◌==◌}
 use Rattle.order.specs.declared.board.TheConstants.{CARDS}
@@ -74,5 +75,8 @@ unfoldable pub renewing : ℕ → List ℕ → ℕ → Renewed
 renewing zero m i = record { memory = m; came = i }
 renewing (suc f) m i = given (first_mark m FORE.column) (record { memory = m; came = i }) (λ p. renewing f (drawn m p i) (i + 1))
 
+unfoldable pub drawn_all : List ℕ → Renewed
+drawn_all m = renewing (min (count m) CARDS) m 0
+
 unfoldable pub renewed : List ℕ → Renewed
-renewed m = renewing (min (count (prepared m)) CARDS) (prepared m) 0
+renewed m = drawn_all (prepared m)

@@ -46,7 +46,7 @@ fn note(memory: &mut Memory, pair: u64)
 }
 
 // Notes for each slot that a link of the table goes into one that such a link comes out of and that hasn't come, if there is one.
-#[tactic(auto, using(crate::proofs::Links::turns))]
+#[tactic(auto, using(crate::proofs::LinkByLink::turns))]
 fn note_all(memory: &mut Memory)
     ensures { memory.new ≡ notes memory.old }
 {

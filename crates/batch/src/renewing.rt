@@ -7,7 +7,7 @@ ghost use Rattle.std.specs.Prelude.{◌≡◌, ◌≤◌, [], ◌∷◌};
 ghost use Rattle.memory.specs.Footprints.{Writes};
 ghost use Rattle.batch.specs.Columns.{renewing};
 ghost use Rattle.batch.specs.Renewing.{raised, counted, counts, freed, frees, cleared, prepared};
-ghost use Rattle.batch.specs.Renewing.{lessened, released, let_go, drawn, renewed};
+ghost use Rattle.batch.specs.Renewing.{lessened, released, let_go, drawn, drawn_all, renewed};
 
 use crate::layout::{LEAVES, SPARE, WAITS};
 use crate::seating::row_len;
@@ -45,7 +45,7 @@ fn count(memory: &mut Memory, pair: u64)
 }
 
 // Counts all links, the newest first. Each turn writes to the memory, which an iterator over the links would hold lent.
-#[tactic(auto, using(crate::proofs::Links::turns))]
+#[tactic(auto, using(crate::proofs::LinkByLink::turns))]
 fn count_all(memory: &mut Memory)
     ensures { memory.new ≡ counts memory.old }
 {
@@ -103,7 +103,7 @@ fn lessen(memory: &mut Memory, slot: u64)
 }
 
 // What each of the links out of a slot goes into waits for one fewer. There are no more turns than links were counted, whatever the memory holds.
-#[tactic(auto, using(crate::proofs::Links::turns))]
+#[tactic(auto, using(crate::proofs::LinkByLink::turns))]
 fn release(memory: &mut Memory, slot: u64, turns: u64)
     ensures { memory.new ≡ released turns memory.old slot }
 {
@@ -138,16 +138,13 @@ fn draw(memory: &mut Memory, place: u64, i: u64)
     let_go(memory, slot);
 }
 
-// Makes the row anew by the rule: writes the slots to SPARE in the order in which they come, and says how many come; all, unless links go round. That not
-// all come is no failure: how many came is what a circle is shown by.
-#[tactic(auto, using(crate::proofs::RenewSteps::renews, crate::proofs::RenewFrames::renewed_wrote), unfolding(crate::specs::Renewing::renewed))]
-pub(crate) fn renew(memory: &mut Memory) -> u64
-    ensures is { result ≡ (renewed memory.old).came }
+// Again and again the slot at the first mark comes, and is written to SPARE; says how many come.
+#[tactic(auto, using(crate::proofs::RenewSteps::renews), unfolding(crate::specs::Renewing::drawn_all))]
+fn draw_all(memory: &mut Memory) -> u64
+    ensures is { result ≡ (drawn_all memory.old).came }
     ensures below { result ≤ CARDS }
-    ensures after { memory.new ≡ (renewed memory.old).memory }
-    ensures wrote { Writes renewing memory.old memory.new }
+    ensures after { memory.new ≡ (drawn_all memory.old).memory }
 {
-    prepare(memory);
     let n = row_len(memory);
     for i in 0..n {
         let Some(place) = FORE.first(memory) else {
@@ -156,4 +153,17 @@ pub(crate) fn renew(memory: &mut Memory) -> u64
         draw(memory, place, i);
     }
     n
+}
+
+// Makes the row anew by the rule: writes the slots to SPARE in the order in which they come, and says how many come; all, unless links go round. That not
+// all come is no failure: how many came is what a circle is shown by.
+#[tactic(auto, using(crate::proofs::RenewFrames::renewed_wrote), unfolding(crate::specs::Renewing::renewed))]
+pub(crate) fn renew(memory: &mut Memory) -> u64
+    ensures is { result ≡ (renewed memory.old).came }
+    ensures below { result ≤ CARDS }
+    ensures after { memory.new ≡ (renewed memory.old).memory }
+    ensures wrote { Writes renewing memory.old memory.new }
+{
+    prepare(memory);
+    draw_all(memory)
 }

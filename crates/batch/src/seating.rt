@@ -33,7 +33,7 @@ impl Span {
     }
 
     // Puts the slots at the places aside.
-    #[tactic(auto, using(crate::proofs::Saving::saved_writes))]
+    #[tactic(auto, using(crate::proofs::Saving::saved_wrote))]
     pub(crate) fn save(self, memory: &mut Memory)
         ensures is { memory.new ≡ saved (min self.high CARDS - self.low) memory.old self.low }
         ensures wrote { Writes (SPARE ∷ []) memory.old memory.new }
@@ -47,7 +47,7 @@ impl Span {
     }
 
     // Gives the places to the slots that were put aside for them.
-    #[tactic(auto, using(memory::proofs::Footprints::footprints, crate::proofs::PlaceByPlace::turns), unfolding(crate::specs::Seating::reseated))]
+    #[tactic(auto, using(crate::proofs::PlaceByPlace::turns), unfolding(crate::specs::Seating::reseated))]
     pub(crate) fn reseat(self, memory: &mut Memory)
         ensures is { memory.new ≡ reseated (min self.high CARDS - self.low) memory.old self.low }
         ensures wrote { Writes (SLOTS ∷ SEATS ∷ []) memory.old memory.new }
