@@ -4,7 +4,7 @@ use Rattle.std.specs.List.{range_with_len}
 use Rattle.std.proofs.lemmas.List.FromFn.{map-range_with_len_more}
 use Rattle.std.proofs.lemmas.List.{append-nil, set_at, set-append_left}
 use Rattle.std.proofs.lemmas.Grind.{common_steps}
-use Rattle.std.proofs.lemmas.Bool.{cases_Bool, eq-eqb, ne_eqb}
+use Rattle.std.proofs.lemmas.Bool.{cases_Bool, cases_lt, eq-eqb, ne_eqb}
 use Rattle.std.proofs.lemmas.Bool.Decides.{nat_tests}
 use Rattle.order.specs.Lists.{any, filter, has, place}
 use Rattle.row.specs.Meaning.{listed, amount}
@@ -195,3 +195,28 @@ listed_set r s f a n l h e =
         let same : more s ≡ more r = ap (λ (x : ℕ). cond (f p) (x ∷ []) []) (e p (λ i. omega arith)) in
         ap (listed s f) y ∙ listed_more s f p ∙ ap₂ (λ (xs ys : List ℕ). xs ++ ys) (go k) same
         ∙ sym (ap (λ (xs : List ℕ). set xs (amount f a) (s a)) (ap (listed r f) y ∙ listed_more r f p) ∙ set-append_left (listed r f p) (more r) (amount f a) (s a) (inside k))
+
+pub amount_same : (f g : ℕ → Bool) (n : ℕ) → ((p : ℕ) → f p ≡ g p) → amount f n ≡ amount g n
+amount_same f g n h =
+    sym (length_listed (λ x. x) f n) ∙ ap length (listed_same (λ x. x) (λ x. x) f g n (λ p _. h p) (λ p _ _. refl)) ∙ length_listed (λ x. x) g n
+
+-- a number that passes behind so many, if so many pass
+pub amount_at : (f : ℕ → Bool) (e n : ℕ) → n < amount f e → (q : ℕ) × (q < e) × (f q ≡ true) × (amount f q ≡ n)
+amount_at f zero n l = let z = amount_none f in absurd (omega arith)
+amount_at f (suc e) n l =
+    ⊎_elim (λ (i : n < amount f e). let w = amount_at f e n i in (w.0, omega (arith, w.1), w.2, w.3))
+    (λ (i : amount f e ≤ n).
+    let t : f e ≡ true = must (f e) (λ z. let a = amount_more f e in let b : cond (f e) 1 0 ≤ 0 = none (f e) z in absurd (omega arith)) in
+    (e, omega arith, t, (let a = amount_more f e in let b = at_most (f e) in omega arith)))
+    (cases_lt n (amount f e))
+  where
+    must : (c : Bool) → (c ≡ false → ⊥) → c ≡ true
+    must true h = refl
+    must false h = absurd (h refl)
+
+    at_most : (c : Bool) → cond c 1 0 ≤ 1
+    at_most true = omega arith
+    at_most false = omega arith
+
+    none : (c : Bool) → c ≡ false → cond c 1 0 ≤ 0
+    none c z = rw z (omega arith)

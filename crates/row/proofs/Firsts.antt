@@ -1,6 +1,6 @@
 -- The first number from one on that passes a test.
 use Rattle.std.proofs.Common.{◌≡◌, ℕ, zero, suc, ◌+◌, ◌-◌, ◌<◌, ◌≤◌, min, Bool, true, false, List, sym, refl, ap, ◌∙◌, inl, inr, arith}
-use Rattle.std.proofs.lemmas.Bool.{cases_lt, cases_eq, both_ways}
+use Rattle.std.proofs.lemmas.Bool.{cases_Bool, cases_lt, cases_eq, both_ways}
 use Rattle.row.specs.declared.layout.TheConstants.{SEATS_MOST}
 use Rattle.row.specs.Meaning.{taken}
 use Rattle.row.specs.Telling.{first_from, next_seat}
@@ -22,6 +22,26 @@ module _ (f : ℕ → Bool) where
   first_none (suc n) p o =
       let t = o p (omega arith) (omega arith) in
       rw t (first_none n (p + 1) (λ r a b. o r (omega arith) (omega arith)) ∙ omega arith)
+
+  pub first_holds : (n p : ℕ) → (p ≤ first_from f n p) × (first_from f n p ≤ p + n) × (first_from f n p < p + n → f (first_from f n p) ≡ true)
+      × ((r : ℕ) → p ≤ r → r < first_from f n p → f r ≡ false)
+  unfolding first_from
+  first_holds zero p = (omega arith, omega arith, λ l. absurd (omega arith), λ r a b. absurd (omega arith))
+  first_holds (suc n) p = elim (cases_Bool (f p)) [
+    | inl t ↦ rw t (omega arith, omega arith, λ _. t, λ r a b. absurd (omega arith))
+    | inr t ↦
+        let h = first_holds n (p + 1) in
+        let q : ℕ = first_from f n (p + 1) in
+        let a = h.0 in let b = h.1 in
+        rw t (omega arith, omega arith, λ l. h.2 (omega arith), λ r x y. elim (cases_eq r p) [ inl e ↦ ap f e ∙ t | inr ne ↦ h.3 r (omega arith) y ])
+  ]
+
+pub next_holds : (m : List ℕ) (p : ℕ) → Next (taken m) p (next_seat m p)
+unfolding next_seat
+next_holds m p =
+    let h = first_holds (taken m) (SEATS_MOST - p) (min p SEATS_MOST) in
+    let a = h.0 in let b = h.1 in
+    record { room = omega arith; here = λ l. h.2 (omega arith); first = λ r x y. h.3 r (omega arith) y; from = λ l. omega arith }
 
 pub next_is : (m : List ℕ) (p q : ℕ) → Next (taken m) p q → q ≡ next_seat m p
 unfolding next_seat

@@ -50,21 +50,23 @@ one_left w n a b =
     none c e = rw e (omega arith)
 
 module _ (m : List ℕ) where
-  -- the set bit is the seat that is looked for
-  pub selected_here : (word n before at : ℕ) → word < WORDS → before ≡ rank m (word * 64) → before ≤ n → at < 64 →
-      Between (cell m TAKEN word) (n - before) at 1 → selected m n ≡ word * 64 + at
+  -- a taken seat is the one that has so many before it
+  pub selected_is : (n q : ℕ) → q < SEATS_MOST → taken m q ≡ true → rank m q ≡ n → selected m n ≡ q
   unfolding selected
-  selected_here word n before at h b l u law =
-      let w = one_left (cell m TAKEN word) (n - before) at law in
-      let t : taken m (word * 64 + at) ≡ true = taken_at m word at u ∙ w.0 in
-      let r : rank m (word * 64 + at) ≡ n = rank_in m word at (omega arith) ∙ omega (arith, w.1) in
-      first_is (λ p. taken m p && eqb (rank m p) n) SEATS_MOST 0 (word * 64 + at) (omega arith) (omega arith) (and_from _ _ t (eq-eqb _ _ r))
+  selected_is n q h t r =
+      first_is (λ p. taken m p && eqb (rank m p) n) SEATS_MOST 0 q (omega arith) (omega arith) (and_from _ _ t (eq-eqb _ _ r))
       (λ p _ k. elim (cases_Bool (taken m p)) [
-        | inl y ↦ let x = amount_before (taken m) p (word * 64 + at) k y in let z = ne_eqb (rank m p) n (λ e. omega arith) in grind arith
+        | inl y ↦ let x = amount_before (taken m) p q k y in let z = ne_eqb (rank m p) n (λ e. omega arith) in grind arith
         | inr y ↦ grind arith
       ])
 
-  -- a seat behind which all are free isn't
+  pub selected_here : (word n before at : ℕ) → word < WORDS → before ≡ rank m (word * 64) → before ≤ n → at < 64 →
+      Between (cell m TAKEN word) (n - before) at 1 → selected m n ≡ word * 64 + at
+  selected_here word n before at h b l u law =
+      let w = one_left (cell m TAKEN word) (n - before) at law in
+      selected_is n (word * 64 + at) (omega arith) (taken_at m word at u ∙ w.0) (rank_in m word at (omega arith) ∙ omega (arith, w.1))
+
+  -- there is none, if not so many are taken
   pub selected_none : (n : ℕ) → rank m SEATS_MOST ≤ n → selected m n ≡ SEATS_MOST
   unfolding selected
   selected_none n l =
