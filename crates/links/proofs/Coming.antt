@@ -1,10 +1,9 @@
 -- Entries come into the chains of a table and go out of them.
-use Rattle.std.proofs.Common.{◌≡◌, ℕ, ◌<◌, ◌≤◌, true, false, cond, eqb, List, [], ◌∷◌, map, length, refl, sym, ap, ◌∙◌, subst, inl, inr, lit<, arith}
+use Rattle.std.proofs.Common.{◌≡◌, ℕ, ◌<◌, ◌≤◌, true, false, eqb, List, [], ◌∷◌, map, refl, ◌∙◌, subst, inl, inr, lit<, arith}
 use Rattle.std.specs.List.{list_all, IsDistinct, AllByRecursion}
 use Rattle.std.proofs.lemmas.Map.Keys.{IsDistinct-head}
 use Rattle.std.proofs.lemmas.Bool.Decides.{nat_tests}
-use Rattle.std.proofs.lemmas.Bool.{cases_Bool, cases_eq, eq-eqb, eqb-true}
-use Rattle.order.specs.declared.board.TheConstants.{CARDS}
+use Rattle.std.proofs.lemmas.Bool.{cases_Bool, cases_eq, eq-eqb}
 use Rattle.order.specs.declared.board.Link.{Link}
 use Rattle.chains.specs.declared.cells.TheConstants.{LABELS}
 use Rattle.chains.specs.declared.cells.Pointer.{Pointer}
@@ -13,9 +12,9 @@ use Rattle.chains.specs.Chains.{InRange, Holds, has, front, out_of}
 use Rattle.chains.specs.Tables.{at, pushed, unhooked}
 use Rattle.chains.specs.Laws.{Comes, Goes, EachOnce}
 use Rattle.chains.proofs.Meeting.{comes, goes}
-use Rattle.chains.proofs.Reading.{each_once, none_zero, range_of}
+use Rattle.chains.proofs.Reading.{each_once, none_zero}
 use Rattle.links.specs.declared.layout.TheConstants.{ENTRIES, OUT, IN, AGE, ALL, FREE, PAIR}
-use Rattle.links.specs.Pairs.{is_between, pair, bucket}
+use Rattle.links.specs.Pairs.{is_between, pair}
 use Rattle.links.specs.Entries.{pointer}
 use Rattle.links.specs.Table.{Entry, point, part, aged, listed, others}
 use Rattle.links.proofs.Parting.{holds_like, part_front, part_out, part_lacks, part_has, all_out, all_has, all_held, out_absent, Apart}

@@ -1,22 +1,21 @@
 -- An entry is given back.
-use Rattle.std.proofs.Common.{◌≡◌, ℕ, suc, ◌+◌, ◌-◌, ◌<◌, ◌≤◌, true, leb, List, [], ◌∷◌, length, refl, sym, ap, ◌∙◌, subst, arith}
+use Rattle.std.proofs.Common.{◌≡◌, ℕ, suc, ◌+◌, ◌-◌, ◌<◌, ◌≤◌, true, leb, List, [], ◌∷◌, length, refl, sym, ◌∙◌, subst, arith}
 use Rattle.std.specs.List.{list_all}
 use Rattle.std.proofs.lemmas.Bool.{and_from, le-leb}
 use Rattle.memory.specs.declared.column.Column.{Column}
-use Rattle.memory.specs.Columns.{cell}
 use Rattle.memory.specs.Footprints.{clear, Writes}
 use Rattle.memory.proofs.Cells.{cell_same, small_cell}
 use Rattle.memory.proofs.Footprints.{put_one}
 use Rattle.order.specs.declared.board.Link.{Link}
 use Rattle.chains.specs.declared.cells.Pointer.{Pointer}
 use Rattle.chains.specs.declared.chain_table.ChainTable.{ChainTable}
-use Rattle.chains.specs.Chains.{Holds, has}
-use Rattle.chains.specs.Tables.{unhooked, pushed}
+use Rattle.chains.specs.Chains.{Holds}
+use Rattle.chains.specs.Tables.{unhooked}
 use Rattle.chains.proofs.Framing.{holds_kept, unhooked_writes, pushed_writes}
-use Rattle.links.specs.declared.layout.TheConstants.{ENTRIES, LIVE, USED, OUT, IN, AGE, ALL, FREE, PAIR}
+use Rattle.links.specs.declared.layout.TheConstants.{ENTRIES, LIVE, USED, AGE, FREE, PAIR}
 use Rattle.links.specs.Pairs.{is_between, pair, bucket}
 use Rattle.links.specs.Entries.{live, used, pointer, shelved, freed}
-use Rattle.links.specs.Table.{Entry, point, part, aged, listed, others}
+use Rattle.links.specs.Table.{Entry, part, aged, listed, others}
 use Rattle.links.proofs.Pairing.{bucket_below}
 use Rattle.links.proofs.Filtering.{filter_tested}
 use Rattle.links.proofs.Parting.{others_lack, others_length, low_listed}
@@ -38,6 +37,7 @@ pub record Beside (G : ChainTable) (key label : Link → ℕ) (m : List ℕ) (L 
 -- a table by the slots of links: where its keys end, and that it shares nothing with the others
 pub record Side (G : ChainTable) (key : Link → ℕ) : Type 0 where
   pub below : (z : Link) → is_between z ≡ true → key z < G.heads
+  pub size : G.cells.size ≤ G.heads + ENTRIES + 1
   pub live_stays : clear (G.cells ∷ []) LIVE ≡ true
   pub used_stays : clear (G.cells ∷ []) USED ≡ true
   pub ages_stay : clear (G.cells ∷ []) AGE.cells ≡ true
@@ -48,7 +48,7 @@ pub record Side (G : ChainTable) (key : Link → ℕ) : Type 0 where
 module _ (G : ChainTable) (key label : Link → ℕ) (fs : List Column) (m n : List ℕ) (L : List Entry) (free : List Pointer) (w : Writes fs m n) where
   pub beside_kept : clear fs G.cells ≡ true → clear fs AGE.cells ≡ true → clear fs PAIR.cells ≡ true → clear fs LIVE ≡ true → clear fs USED ≡ true
       → Beside G key label m L free → Beside G key label n L free
-  beside_kept g a p l u b = 
+  beside_kept g a p l u b =
       let e : used n ≡ used m = w.others USED 0 u in
       record {
         across = holds_kept G fs g m n w (part key label L) b.across;
