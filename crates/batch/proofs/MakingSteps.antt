@@ -3,8 +3,10 @@ use Rattle.std.proofs.Common.{◌≡◌, ℕ, ◌<◌, ◌≤◌, false, List, l
 use Rattle.std.proofs.lemmas.Bool.{lt-ltb, le-ltb, le-leb, eq-eqb}
 use Rattle.order.specs.declared.board.Link.{Link}
 use Rattle.order.specs.declared.board.Refusal.{Refusal}
-use Rattle.row.specs.Layout.{count}
+use Rattle.row.specs.Meaning.{count}
 use Rattle.keeper.specs.declared.event.Reason.TheVariants.{Unfit, Board}
+use Rattle.memory.specs.declared.column.TheConstants.{MEMORY}
+use Rattle.keeper.specs.declared.layout.TheConstants.{OUTPUT}
 use Rattle.keeper.specs.Own.{step_fits}
 use Rattle.batch.specs.Loading.{Loaded, loaded}
 use Rattle.batch.specs.Renewing.{renewed}
@@ -34,6 +36,6 @@ module _ (m ks : List ℕ) (ls : List Link) (out : List ℕ) where
   unfolding made_anew
   anew_unfit h = rw h
 
-  pub anew_fits : length m ≡ 524288 → 8192 ≤ length out → made_anew m ks ls out ≡ made (loaded (replicate (length m) 0) ks ls) out
+  pub anew_fits : length m ≡ MEMORY → OUTPUT ≤ length out → made_anew m ks ls out ≡ made (loaded (replicate (length m) 0) ks ls) out
   unfolding made_anew
-  anew_fits e h = rw (eq-eqb (length m) 524288 e, le-leb 8192 (length out) h)
+  anew_fits e h = rw (eq-eqb (length m) MEMORY e, le-leb OUTPUT (length out) h)
