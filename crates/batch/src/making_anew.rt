@@ -1,9 +1,10 @@
 // A row made anew by the rule, from any cards and links; or a circle of links, if they go round.
-ghost use Rattle.std.specs.Prelude.{◌≡◌, ◌≤◌, length, Ok};
+ghost use Rattle.std.specs.Prelude.{◌≡◌, ◌≤◌, length, replicate, Ok};
 ghost use Rattle.search.specs.Way.{over};
 ghost use Rattle.batch.specs.AnewLaws.{MakesAnew};
 ghost use Rattle.batch.specs.Renewing.{renewed};
-ghost use Rattle.batch.specs.MakingAnew.{MadeSo, new_row, ended, made_anew};
+ghost use Rattle.batch.specs.Loading.{loaded};
+ghost use Rattle.batch.specs.MakingAnew.{MadeSo, new_row, ended, made, made_anew};
 
 use crate::circling::show_circle;
 use crate::layout::SPARE;
@@ -48,9 +49,24 @@ fn finish(memory: &mut Memory, out: &mut [u64]) -> Anew
     Anew::Row(n)
 }
 
+// Makes the row of these cards and links anew, in lent memory.
+#[tactic(auto, unfolding(crate::specs::MakingAnew::made))]
+fn make(
+    memory: &mut Memory,
+    row: &[u64],
+    links: &[Link],
+    out: &mut [u64],
+) -> Result<Anew, Reason>
+    requires { OUTPUT ≤ length out.old }
+    ensures { MadeSo (made (loaded (replicate (length memory.old) 0) row.now links.now) out.old) result memory.new out.new }
+{
+    load(memory, row, links)?;
+    Ok(finish(memory, out))
+}
+
 // Makes the row anew by the rule, with these links: the row by the rule is written to the front of `out`, or a circle, if the links go round. Whatever
 // stood in the memory is gone then.
-#[tactic(auto, using(crate::proofs::MakesAnew::makes_anew), unfolding(crate::specs::MakingAnew::made_anew, crate::specs::MakingAnew::made))]
+#[tactic(auto, using(crate::proofs::MakesAnew::makes_anew, crate::proofs::MakingSteps::makings), unfolding(crate::specs::MakingAnew::made_anew))]
 pub fn make_anew(
     memory: &mut [u64],
     row: &[u64],
@@ -66,6 +82,5 @@ pub fn make_anew(
     if out.len() < OUTPUT {
         return Err(Reason::Unfit);
     }
-    load(memory, row, links)?;
-    Ok(finish(memory, out))
+    make(memory, row, links, out)
 }
