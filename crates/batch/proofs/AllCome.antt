@@ -2,20 +2,20 @@
 use Rattle.std.proofs.Common.{◌≡◌, ℕ, zero, suc, ◌+◌, ◌<◌, ◌≤◌, Bool, true, false, not, ◌&&◌, eqb, List, [], ◌∷◌, map, length, Some, None, Option, sym, refl, ap, ◌∙◌, subst, ap₂, arith}
 use Rattle.std.specs.List.{range_with_len}
 use Rattle.std.proofs.lemmas.Bool.{lt-ltb, le-ltb}
-use Rattle.row.specs.declared.board.Link.{Link}
-use Rattle.row.specs.Lists.{any, filter, has, distinct}
-use Rattle.row.specs.Columns.{cell}
+use Rattle.order.specs.declared.board.Link.{Link}
+use Rattle.order.specs.Lists.{any, filter, has, distinct}
+use Rattle.memory.specs.Columns.{cell}
 use Rattle.row.specs.Layout.{slots, count}
-use Rattle.row.specs.Lookup.{given}
+use Rattle.memory.specs.Options.{given}
 use Rattle.row.specs.Meaning.{row_of}
-use Rattle.row.proofs.Filters.{distinct_filter}
-use Rattle.row.proofs.Tabulated.{distinct_made}
+use Rattle.order.proofs.Filters.{distinct_filter}
+use Rattle.order.proofs.Tabulated.{distinct_made}
 use Rattle.links.specs.Meaning.{edges}
 use Rattle.search.specs.Layout.{fore}
-use Rattle.search.specs.Marks.{marked, first_mark}
-use Rattle.search.specs.MarkLaws.{Summed, Least}
+use Rattle.memory.specs.PlaceSets.{marked, first_mark}
+use Rattle.memory.specs.PlaceSetLaws.{Summed, Least}
 use Rattle.search.specs.Meaning.{slot_on}
-use Rattle.search.proofs.Upward.{first_of_all}
+use Rattle.memory.proofs.Upward.{first_of_all}
 use Rattle.search.proofs.Listed.{head_of, from_least, from_list, lists_filter}
 use Rattle.search.proofs.RowPlaces.{slot_one}
 use Rattle.batch.specs.Layout.{spare}

@@ -2,10 +2,10 @@
 use Rattle.std.proofs.Common.{◌≡◌, ℕ, true, List, length, sym, refl, ap, ◌∙◌, arith}
 use Rattle.std.proofs.lemmas.List.{drop_all}
 use Rattle.std.proofs.lemmas.List.Sorted.{length_permutation}
-use Rattle.row.specs.Board.{Board}
-use Rattle.row.specs.Commands.{told_rows}
+use Rattle.order.specs.Board.{Board}
+use Rattle.command.specs.Commands.{told_rows}
 use Rattle.row.specs.Layout.{count}
-use Rattle.row.proofs.Climbs.{fine_parts}
+use Rattle.order.proofs.Climbs.{fine_parts}
 use Rattle.row.proofs.Present.{length_cards}
 use Rattle.keeper.proofs.Knowing.{row_is}
 use Rattle.keeper.proofs.ToldRuns.{from_first}

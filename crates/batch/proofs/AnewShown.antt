@@ -4,17 +4,17 @@ use mathlib.Core.List.{map_congr_left}
 use lib.ListN.{length-map}
 use Rattle.std.proofs.lemmas.List.FromFn.{length-map-range_with_len}
 use Rattle.std.proofs.lemmas.Bool.{and_parts, and_from}
-use Rattle.row.specs.declared.board.Link.{Link}
-use Rattle.row.specs.Lists.{every, distinct}
-use Rattle.row.specs.Board.{Board}
-use Rattle.row.specs.Columns.{cell}
+use Rattle.order.specs.declared.board.Link.{Link}
+use Rattle.order.specs.Lists.{every, distinct}
+use Rattle.order.specs.Board.{Board}
+use Rattle.memory.specs.Columns.{cell}
 use Rattle.row.specs.Layout.{ids, slots, count}
 use Rattle.row.specs.Meaning.{row_of, used}
-use Rattle.row.specs.Renaming.{renamed, Naming}
-use Rattle.row.proofs.Filters.{every_more}
+use Rattle.order.specs.Renaming.{renamed, Naming}
+use Rattle.order.proofs.Filters.{every_more}
 use Rattle.row.proofs.Present.{apart}
 use Rattle.row.proofs.Named.{has_slot, cards_named, slots_named}
-use Rattle.row.proofs.RenamesLists.{distinct_map}
+use Rattle.order.proofs.RenamesLists.{distinct_map}
 use Rattle.links.specs.Meaning.{edges}
 use Rattle.search.specs.Meaning.{slot_board}
 use Rattle.batch.specs.declared.making_anew.Anew.TheVariants.{Row, Circle}

@@ -1,10 +1,13 @@
 -- What putting the row into the order of the cards' numbers leaves as it was, whatever the memory.
 use Rattle.std.proofs.Common.{ℕ, ◌^◌, ◌<◌, ◌≤◌, min, List, Some, None, Option, ◌∙◌, arith}
-use Rattle.row.specs.Columns.{cell}
+use Rattle.memory.specs.Columns.{cell}
 use Rattle.row.specs.Layout.{ids, slots, count}
-use Rattle.row.specs.Lookup.{given, Below, found}
-use Rattle.search.specs.MarkLaws.{Only}
-use Rattle.search.proofs.Frames.{Small, small_cell, only_on}
+use Rattle.memory.specs.Options.{given}
+use Rattle.row.specs.Lookup.{Below, found}
+use Rattle.search.specs.SetLaws.{Only}
+use Rattle.memory.specs.Footprints.{Small}
+use Rattle.memory.proofs.Cells.{small_cell}
+use Rattle.search.proofs.Frames.{only_on}
 use Rattle.keeper.proofs.RowSize.{found_below}
 use Rattle.batch.specs.Layout.{spare, numbers}
 use Rattle.batch.specs.Arranging.{filled, card_at, slot_at, ordered, looked_up, arranged_by}

@@ -1,16 +1,18 @@
 -- A memory that differs from another in some columns only, whichever these are; and what the steps that make the row anew leave so.
 use Rattle.std.proofs.Common.{◌≡◌, ℕ, zero, suc, ◌+◌, ◌-◌, ◌^◌, ◌<◌, min, true, eqb, List, length, refl, ◌∙◌, arith}
 use Rattle.std.proofs.lemmas.Bool.{cond_both}
-use Rattle.row.specs.declared.column.Column.{Column}
-use Rattle.row.specs.Columns.{cell, written, apart, wiped}
+use Rattle.memory.specs.declared.column.Column.{Column}
+use Rattle.memory.specs.Columns.{cell, written, apart, wiped}
 use Rattle.row.specs.Layout.{slots, places}
-use Rattle.row.proofs.Cells.{length_written, cell_apart}
+use Rattle.memory.proofs.Cells.{length_written, cell_apart}
 use Rattle.links.specs.Layout.{froms, tos}
 use Rattle.links.specs.Building.{blanked}
 use Rattle.search.specs.Layout.{fore}
-use Rattle.search.specs.Marks.{added}
-use Rattle.search.specs.MarkLaws.{Only}
-use Rattle.search.proofs.Frames.{Small, small_written, small_cell, only_added}
+use Rattle.memory.specs.PlaceSets.{added}
+use Rattle.search.specs.SetLaws.{Only}
+use Rattle.memory.specs.Footprints.{Small}
+use Rattle.memory.proofs.Cells.{small_written, small_cell}
+use Rattle.search.proofs.Frames.{only_added}
 use Rattle.batch.specs.Layout.{awaits, leaves}
 use Rattle.batch.specs.Renewing.{raised, counted, counted_all, cleared, freed, freed_all, lessened}
 use Rattle.batch.specs.Listing.{at_each}

@@ -3,10 +3,10 @@ use Rattle.std.proofs.Common.{◌≡◌, ℕ, ◌<◌, false, List, [], ◌∷�
 use lib.ListN.{length-replicate}
 use Rattle.std.proofs.lemmas.List.{append-nil}
 use Rattle.std.proofs.lemmas.Bool.{cases_Bool, cases_lt, le-leb, lt-leb}
-use Rattle.row.specs.declared.board.Refusal.{Refusal}
-use Rattle.row.specs.declared.board.Refusal.TheVariants.{Exists, Full}
-use Rattle.row.specs.Lists.{has}
-use Rattle.row.specs.Columns.{cell}
+use Rattle.order.specs.declared.board.Refusal.{Refusal}
+use Rattle.order.specs.declared.board.Refusal.TheVariants.{Exists, Full}
+use Rattle.order.specs.Lists.{has}
+use Rattle.memory.specs.Columns.{cell}
 use Rattle.row.specs.Meaning.{cards, Stands}
 use Rattle.row.specs.Moves.{refused, came}
 use Rattle.row.proofs.Beginning.{begins}
@@ -16,10 +16,10 @@ use Rattle.links.specs.Meaning.{edges, Tabled}
 use Rattle.links.proofs.Emptying.{tabled_zeros}
 use Rattle.links.proofs.Sameness.{edges_alike, tabled_alike}
 use Rattle.search.specs.Layout.{fore}
-use Rattle.search.specs.Marks.{marked}
-use Rattle.search.specs.MarkLaws.{Summed}
+use Rattle.memory.specs.PlaceSets.{marked}
+use Rattle.memory.specs.PlaceSetLaws.{Summed}
 use Rattle.search.proofs.Frames.{cells_alone}
-use Rattle.search.proofs.Zeros.{fresh_memory}
+use Rattle.search.proofs.Fresh.{fresh_memory}
 use Rattle.keeper.proofs.Carrying.{row_alike}
 use Rattle.batch.specs.Loading.{Loaded, refusal_of, cards_come}
 use Rattle.batch.specs.AnewLaws.{cards_refusal}

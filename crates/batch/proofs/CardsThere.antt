@@ -1,9 +1,9 @@
 -- The cards that links name are found just if they are there; and what their slots tell.
 use Rattle.std.proofs.Common.{◌≡◌, ℕ, true, ◌&&◌, List, [], ◌∷◌, is_some, Some, sym, refl, ap, ◌∙◌, subst, ap₂}
-use Rattle.row.specs.declared.board.Link.{Link}
-use Rattle.row.specs.Lists.{every, has, place}
-use Rattle.row.specs.Board.{Board, ◌⟶◌, linked}
-use Rattle.row.specs.Columns.{cell}
+use Rattle.order.specs.declared.board.Link.{Link}
+use Rattle.order.specs.Lists.{every, has, place}
+use Rattle.order.specs.Board.{Board, ◌⟶◌, linked}
+use Rattle.memory.specs.Columns.{cell}
 use Rattle.row.specs.Layout.{places}
 use Rattle.row.proofs.Closes.{used_below}
 use Rattle.row.proofs.Named.{place_slot}

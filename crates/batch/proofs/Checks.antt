@@ -2,7 +2,7 @@
 use Rattle.std.proofs.Common.{◌≡◌, ℕ, ◌+◌, Bool, ◌||◌, List, [], ◌∷◌, ◌++◌, length, take, sym, refl, ◌∙◌, ap₂, append_assoc, length-append}
 use Rattle.std.proofs.lemmas.List.{take_at}
 use Rattle.std.specs.List.{list_any, enumerate_from}
-use Rattle.row.specs.declared.board.Link.{Link}
+use Rattle.order.specs.declared.board.Link.{Link}
 use Rattle.links.specs.Entries.{joins}
 use Rattle.batch.specs.Checking.{known, repeated}
 

@@ -1,10 +1,10 @@
 -- Circles of links: a way that goes round is one, with more links it stays one, and no row keeps its links.
 use Rattle.std.proofs.Common.{◌≡◌, ℕ, ◌<◌, ◌≤◌, true, false, ◌&&◌, eqb, ltb, List, [], ◌∷◌, refl, arith}
 use Rattle.std.proofs.lemmas.Bool.{ltb-true, eqb-true, both_ways, and_parts, and_from}
-use Rattle.row.specs.Lists.{place, distinct}
-use Rattle.row.specs.Board.{Board, linked, keeps}
-use Rattle.row.specs.Commands.{follows, last_of, goes_round}
-use Rattle.row.proofs.Filters.{every_at}
+use Rattle.order.specs.Lists.{place, distinct}
+use Rattle.order.specs.Board.{Board, linked, keeps}
+use Rattle.order.specs.Reordering.{follows, last_of, goes_round}
+use Rattle.order.proofs.Filters.{every_at}
 use Rattle.batch.specs.Several.{circle}
 
 -- with more links

@@ -1,12 +1,12 @@
 -- A circle of links is a circle, if its cards have other names.
 use Rattle.std.proofs.Common.{◌≡◌, ℕ, Bool, true, ◌&&◌, List, [], ◌∷◌, map, refl, ◌∙◌}
 use Rattle.std.proofs.lemmas.Bool.{eq-eqb, and_parts, and_from}
-use Rattle.row.specs.Lists.{every, distinct}
-use Rattle.row.specs.Board.{Board, linked}
-use Rattle.row.specs.Commands.{follows, last_of, goes_round}
-use Rattle.row.specs.Renaming.{renamed, Naming}
-use Rattle.row.proofs.Filters.{every_at}
-use Rattle.row.proofs.RenamesWays.{linked_renamed, way_renamed}
+use Rattle.order.specs.Lists.{every, distinct}
+use Rattle.order.specs.Board.{Board, linked}
+use Rattle.order.specs.Reordering.{follows, last_of, goes_round}
+use Rattle.order.specs.Renaming.{renamed, Naming}
+use Rattle.order.proofs.Filters.{every_at}
+use Rattle.order.proofs.RenamesWays.{linked_renamed, way_renamed}
 use Rattle.batch.specs.Several.{circle}
 use Rattle.batch.proofs.CircleLinks.{round_closed}
 

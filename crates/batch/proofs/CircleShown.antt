@@ -2,15 +2,15 @@
 use Rattle.std.proofs.Common.{◌≡◌, ℕ, ◌+◌, ◌<◌, ◌≤◌, min, Bool, true, false, not, ◌&&◌, eqb, ltb, List, length, is_some, sym, refl, ap, ◌∙◌, subst, inl, inr, arith}
 use Rattle.std.proofs.lemmas.List.FromFn.{length-map-range_with_len}
 use Rattle.std.proofs.lemmas.Bool.{both_ways, and_parts, and_from, eqb-true, eq-eqb}
-use Rattle.row.specs.declared.board.Link.{Link}
-use Rattle.row.specs.declared.column.Column.{Column}
-use Rattle.row.specs.Lists.{every, any, has, distinct}
-use Rattle.row.specs.Board.{linked}
-use Rattle.row.specs.Columns.{cell, apart}
+use Rattle.order.specs.declared.board.Link.{Link}
+use Rattle.memory.specs.declared.column.Column.{Column}
+use Rattle.order.specs.Lists.{every, any, has, distinct}
+use Rattle.order.specs.Board.{linked}
+use Rattle.memory.specs.Columns.{cell, apart}
 use Rattle.row.specs.Layout.{tally, ids, slots, count}
 use Rattle.row.specs.Meaning.{row_of, used, Stands}
-use Rattle.row.proofs.Filters.{every_has, every_at, every_more}
-use Rattle.row.proofs.Tabulated.{made_has}
+use Rattle.order.proofs.Filters.{every_has, every_at, every_more}
+use Rattle.order.proofs.Tabulated.{made_has}
 use Rattle.row.proofs.Present.{slot_used}
 use Rattle.row.proofs.Named.{has_slot, row_used}
 use Rattle.row.proofs.Closes.{used_below}

@@ -3,7 +3,7 @@ use Rattle.std.proofs.Common.{zero, suc, map, refl, inl, inr, ◌≡◌, ℕ, �
 use Rattle.std.specs.List.{fold, find, range_with_len}
 use Rattle.std.specs.Option.{unwrap_or}
 use Rattle.std.proofs.lemmas.Bool.{cases_Bool}
-use Rattle.row.specs.Columns.{cell}
+use Rattle.memory.specs.Columns.{cell}
 use Rattle.row.specs.Layout.{ids, slots}
 use Rattle.search.specs.Way.{trail, over}
 use Rattle.search.proofs.Joining.{turned_front}

@@ -5,9 +5,9 @@ use Rattle.std.proofs.lemmas.Bool.Decides.{nat_tests}
 use Rattle.std.proofs.lemmas.Bool.{cases_lt}
 use Rattle.std.proofs.lemmas.List.Edits.{length-between, get_or-between}
 use Rattle.std.proofs.lemmas.List.FromFn.{fill_by_all}
-use Rattle.row.specs.declared.column.Column.{Column}
-use Rattle.row.specs.Columns.{cell}
-use Rattle.search.specs.MarkLaws.{Only}
+use Rattle.memory.specs.declared.column.Column.{Column}
+use Rattle.memory.specs.Columns.{cell}
+use Rattle.search.specs.SetLaws.{Only}
 use Rattle.batch.specs.Rule.{sorted}
 use Rattle.batch.specs.Sorting.{sorted_part}
 use Rattle.keeper.proofs.OwnSize.{small_each, each_small}

@@ -2,13 +2,13 @@
 use Rattle.std.proofs.Common.{◌≡◌, ℕ, ◌+◌, ◌<◌, Bool, true, false, not, ◌&&◌, eqb, ltb, List, length, sym, refl, ap, ◌∙◌, inl, inr, arith}
 use Rattle.std.proofs.lemmas.Bool.{cases_Bool, cases_eq, cases_lt, both_ways, not-true, eq-eqb, ne_eqb, eqb-true, lt-ltb, le-ltb, ltb-true, and_parts, and_from}
 use Rattle.std.proofs.lemmas.Bool.Decides.{nat_tests}
-use Rattle.row.specs.declared.board.Link.{Link}
-use Rattle.row.specs.Lists.{has}
-use Rattle.row.specs.Columns.{cell}
+use Rattle.order.specs.declared.board.Link.{Link}
+use Rattle.order.specs.Lists.{has}
+use Rattle.memory.specs.Columns.{cell}
 use Rattle.row.specs.Layout.{places, count}
 use Rattle.row.specs.Meaning.{row_of, used, Stands}
-use Rattle.row.proofs.Ways.{joins}
-use Rattle.row.proofs.Filters.{every_all, every_has}
+use Rattle.order.proofs.Ways.{joins}
+use Rattle.order.proofs.Filters.{every_all, every_has}
 use Rattle.row.proofs.Named.{row_used}
 use Rattle.row.proofs.Present.{slot_used, used_place}
 use Rattle.row.proofs.Closes.{used_below}
@@ -18,7 +18,7 @@ use Rattle.links.specs.Chains.{dead}
 use Rattle.links.specs.Entries.{link_at}
 use Rattle.links.specs.Meaning.{edges, lives}
 use Rattle.search.specs.Layout.{fore}
-use Rattle.search.specs.Marks.{marked}
+use Rattle.memory.specs.PlaceSets.{marked}
 use Rattle.search.specs.Meaning.{slot_on}
 use Rattle.search.proofs.RowPlaces.{slot_one}
 use Rattle.batch.specs.Layout.{leaves}

@@ -1,12 +1,12 @@
 -- All links counted: for each slot, how many go into it, and how many come out of it.
 use Rattle.std.proofs.Common.{◌≡◌, ℕ, zero, suc, ◌+◌, ◌<◌, ◌≤◌, min, Bool, true, false, eqb, ltb, List, [], ◌∷◌, ◌++◌, length, sym, refl, ap, ◌∙◌, subst, ap₂, inl, inr, add-one, arith}
 use Rattle.std.proofs.lemmas.Bool.{cases_eq, eq-eqb, ne_eqb, ltb-true, not-false}
-use Rattle.row.specs.declared.board.Link.{Link}
-use Rattle.row.specs.Lists.{filter}
-use Rattle.row.specs.declared.column.Column.{Column}
-use Rattle.row.specs.Columns.{cell, written, apart, wiped}
+use Rattle.order.specs.declared.board.Link.{Link}
+use Rattle.order.specs.Lists.{filter}
+use Rattle.memory.specs.declared.column.Column.{Column}
+use Rattle.memory.specs.Columns.{cell, written, apart, wiped}
 use Rattle.row.specs.Layout.{tally}
-use Rattle.row.proofs.Cells.{length_written, cell_same, cell_other}
+use Rattle.memory.proofs.Cells.{length_written, cell_same, cell_other}
 use Rattle.links.specs.Layout.{live, end, froms, tos}
 use Rattle.links.specs.Chains.{dead}
 use Rattle.links.specs.Entries.{link_at}

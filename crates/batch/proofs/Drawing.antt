@@ -1,20 +1,20 @@
 -- One card comes in the memory: its mark is taken away, it is noted, and its links are followed.
 use Rattle.std.proofs.Common.{◌≡◌, ℕ, ◌+◌, ◌<◌, Bool, true, not, ◌&&◌, eqb, List, length, sym, refl, ap, ◌∙◌, subst, arith}
-use Rattle.row.specs.declared.column.Column.{Column}
-use Rattle.row.specs.Columns.{cell, written}
+use Rattle.memory.specs.declared.column.Column.{Column}
+use Rattle.memory.specs.Columns.{cell, written}
 use Rattle.row.specs.Layout.{slots}
 use Rattle.row.specs.Meaning.{row_of}
-use Rattle.row.proofs.Cells.{length_written, cell_same, cell_other, cell_apart}
+use Rattle.memory.proofs.Cells.{length_written, cell_same, cell_other, cell_apart}
 use Rattle.links.specs.declared.chain.Chain.TheVariants.{Out}
 use Rattle.links.specs.Layout.{end}
 use Rattle.links.specs.Meaning.{lives}
 use Rattle.links.proofs.Sameness.{at_alike}
 use Rattle.links.proofs.Stepping.{at_head}
 use Rattle.search.specs.Layout.{fore}
-use Rattle.search.specs.Marks.{marked, removed}
-use Rattle.search.specs.MarkLaws.{Only}
+use Rattle.memory.specs.PlaceSets.{marked, removed}
+use Rattle.search.specs.SetLaws.{Only}
 use Rattle.search.specs.Meaning.{slot_on}
-use Rattle.search.proofs.Adding.{removing}
+use Rattle.memory.proofs.Adding.{removing}
 use Rattle.search.proofs.Frames.{only_removed}
 use Rattle.search.proofs.Sounding.{marked_same, summed_same}
 use Rattle.batch.specs.Layout.{spare, awaits, leaves}

@@ -1,14 +1,15 @@
 -- Two rows that are the same before one place and from another on: what one link leaves so, and that cards between the two places stay there.
 use Rattle.std.proofs.Common.{◌≡◌, ℕ, ◌+◌, ◌-◌, ◌<◌, ◌≤◌, true, List, take, drop, sym, ap, ◌∙◌, inl, inr, arith, take-take, drop-drop}
 use Rattle.std.proofs.lemmas.Bool.{cases_Bool, cases_lt}
-use Rattle.row.specs.declared.board.Link.{Link}
-use Rattle.row.specs.declared.board.Command.TheVariants.{Link as Links}
-use Rattle.row.specs.Lists.{has, place, distinct}
-use Rattle.row.specs.Board.{Board}
-use Rattle.row.specs.Commands.{backward, must_be}
-use Rattle.row.proofs.Filters.{same_is}
-use Rattle.row.proofs.Little.{little_parts, place_by_front, place_by_rest}
-use Rattle.row.proofs.Only.{firm_is_little}
+use Rattle.order.specs.declared.board.Link.{Link}
+use Rattle.command.specs.declared.command.Command.TheVariants.{Link as Links}
+use Rattle.order.specs.Lists.{has, place, distinct}
+use Rattle.order.specs.Board.{Board}
+use Rattle.order.specs.Reordering.{backward}
+use Rattle.command.specs.Commands.{must_be}
+use Rattle.order.proofs.Filters.{same_is}
+use Rattle.order.proofs.Little.{little_parts, place_by_front, place_by_rest}
+use Rattle.order.proofs.Only.{firm_is_little}
 
 pub record SameEnds (lo hi : ℕ) (xs ys : List ℕ) : Type 0 where
   pub front : take lo xs ≡ take lo ys

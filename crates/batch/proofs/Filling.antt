@@ -2,12 +2,13 @@
 use Rattle.std.proofs.Common.{◌⊎◌, inl, inr, ◌≡◌, ℕ, zero, suc, ◌+◌, ◌^◌, ◌<◌, ◌≤◌, List, map, length, sym, refl, ap, ◌∙◌, inl, inr, arith}
 use Rattle.std.specs.List.{range_with_len}
 use Rattle.std.proofs.lemmas.Bool.{cases_eq}
-use Rattle.row.specs.declared.column.Column.{Column}
-use Rattle.row.specs.Columns.{cell, written}
-use Rattle.row.proofs.Cells.{length_written, cell_same, cell_other}
-use Rattle.row.proofs.Tabulated.{made_same}
-use Rattle.search.specs.MarkLaws.{Only}
-use Rattle.search.proofs.Frames.{Small, only_same, only_on, only_written}
+use Rattle.memory.specs.declared.column.Column.{Column}
+use Rattle.memory.specs.Columns.{cell, written}
+use Rattle.memory.proofs.Cells.{length_written, cell_same, cell_other}
+use Rattle.order.proofs.Tabulated.{made_same}
+use Rattle.search.specs.SetLaws.{Only}
+use Rattle.memory.specs.Footprints.{Small}
+use Rattle.search.proofs.Frames.{only_same, only_on, only_written}
 use Rattle.batch.specs.Arranging.{filled}
 use Rattle.batch.specs.Listing.{at_each}
 

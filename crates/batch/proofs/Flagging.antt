@@ -3,12 +3,12 @@ use Rattle.std.proofs.Common.{◌≡◌, ℕ, zero, suc, ◌+◌, ◌<◌, ◌�
 use Rattle.std.specs.List.{range_with_len}
 use Rattle.std.proofs.lemmas.Bool.{cases_Bool, cases_eq, both_ways, eq-eqb, ne_eqb, lt-ltb}
 use Rattle.std.proofs.lemmas.Bool.Decides.{nat_tests}
-use Rattle.row.specs.declared.column.Column.{Column}
-use Rattle.row.specs.Lists.{any, has}
-use Rattle.row.specs.Columns.{cell, written, apart}
+use Rattle.memory.specs.declared.column.Column.{Column}
+use Rattle.order.specs.Lists.{any, has}
+use Rattle.memory.specs.Columns.{cell, written, apart}
 use Rattle.row.specs.Layout.{slots}
-use Rattle.row.proofs.Cells.{length_written, cell_same, cell_other, cell_apart}
-use Rattle.row.proofs.Tabulated.{made_same}
+use Rattle.memory.proofs.Cells.{length_written, cell_same, cell_other, cell_apart}
+use Rattle.order.proofs.Tabulated.{made_same}
 use Rattle.links.specs.Building.{blanked}
 use Rattle.batch.specs.Layout.{spare, leaves}
 use Rattle.batch.specs.Circling.{flagged, stays, first_left}

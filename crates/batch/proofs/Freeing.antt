@@ -2,22 +2,22 @@
 use Rattle.std.proofs.Common.{◌≡◌, ℕ, zero, suc, ◌+◌, ◌-◌, ◌<◌, ◌≤◌, min, Bool, true, false, ◌&&◌, ◌||◌, eqb, ltb, List, length, sym, refl, ap, ◌∙◌, subst, ap₂, inl, inr, add-one, arith}
 use Rattle.std.proofs.lemmas.Bool.{cases_Bool, cases_eq, cases_lt, eq-eqb, ne_eqb, lt-ltb, le-ltb}
 use Rattle.std.proofs.lemmas.Bool.Decides.{nat_tests}
-use Rattle.row.specs.declared.board.Link.{Link}
-use Rattle.row.specs.declared.column.Column.{Column}
-use Rattle.row.specs.Columns.{cell, written, apart}
+use Rattle.order.specs.declared.board.Link.{Link}
+use Rattle.memory.specs.declared.column.Column.{Column}
+use Rattle.memory.specs.Columns.{cell, written, apart}
 use Rattle.row.specs.Layout.{tally, slots, places, count}
 use Rattle.row.specs.Meaning.{row_of, used, Stands}
-use Rattle.row.proofs.Cells.{length_written, cell_same, cell_other, cell_apart}
+use Rattle.memory.proofs.Cells.{length_written, cell_same, cell_other, cell_apart}
 use Rattle.row.proofs.Present.{used_place}
 use Rattle.row.proofs.Closes.{used_below}
 use Rattle.links.specs.Layout.{end}
 use Rattle.links.specs.Chains.{dead}
 use Rattle.links.specs.Meaning.{edges, Holds}
 use Rattle.search.specs.Layout.{fore}
-use Rattle.search.specs.Marks.{marked}
-use Rattle.search.specs.MarkLaws.{Summed}
+use Rattle.memory.specs.PlaceSets.{marked}
+use Rattle.memory.specs.PlaceSetLaws.{Summed}
 use Rattle.search.specs.Meaning.{slot_on}
-use Rattle.search.proofs.Adding.{adding}
+use Rattle.memory.proofs.Adding.{adding}
 use Rattle.search.proofs.Sounding.{marked_same, summed_same}
 use Rattle.search.proofs.Exchanged.{with_at, at_here, at_else}
 use Rattle.batch.specs.Layout.{spare, awaits, leaves}

@@ -2,10 +2,10 @@
 use Rattle.std.proofs.Common.{◌≡◌, ℕ, zero, suc, ◌+◌, ◌<◌, ◌≤◌, Bool, true, false, ◌&&◌, List, [], ◌∷◌, length, refl, inl, inr, arith}
 use Rattle.std.proofs.lemmas.Bool.Decides.{nat_tests}
 use Rattle.std.proofs.lemmas.Bool.{cases_Bool, cases_eq, both_ways, and_parts, and_from}
-use Rattle.row.specs.Lists.{every, any, has, distinct}
-use Rattle.row.specs.Board.{Board, linked}
-use Rattle.row.specs.Commands.{follows, last_of}
-use Rattle.row.proofs.Chaining.{has_head, has_on, not_again, distinct_tail}
+use Rattle.order.specs.Lists.{every, any, has, distinct}
+use Rattle.order.specs.Board.{Board, linked}
+use Rattle.order.specs.Reordering.{follows, last_of}
+use Rattle.order.proofs.Members.{has_head, has_on, not_again, distinct_tail}
 use Rattle.batch.specs.Several.{circle}
 use Rattle.batch.proofs.Within.{distinct_cons, Within, within_more, within_both, within_not, few_within}
 

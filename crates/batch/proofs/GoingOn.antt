@@ -1,14 +1,15 @@
 -- Several links that don't go round: after the first, the others still don't.
 use Rattle.std.proofs.Common.{◌≡◌, ℕ, true, false, ◌||◌, List, [], ◌∷◌, ◌++◌, length, refl, ap, ap₂, arith}
 use Rattle.std.proofs.lemmas.Bool.{and_parts}
-use Rattle.row.specs.declared.board.Link.{Link}
-use Rattle.row.specs.declared.board.Command.TheVariants.{Link as Links}
-use Rattle.row.specs.Lists.{every, has}
-use Rattle.row.specs.Board.{Board, ◌⟶◌, keeps, fine, rounds, leads}
-use Rattle.row.specs.Commands.{with_link, must_be}
-use Rattle.row.proofs.Filters.{every_more}
-use Rattle.row.proofs.Climbs.{fine_parts}
-use Rattle.row.proofs.Allowed.{Open}
+use Rattle.order.specs.declared.board.Link.{Link}
+use Rattle.command.specs.declared.command.Command.TheVariants.{Link as Links}
+use Rattle.order.specs.Lists.{every, has}
+use Rattle.order.specs.Board.{Board, ◌⟶◌, keeps, fine, rounds, leads}
+use Rattle.order.specs.Reordering.{with_link}
+use Rattle.command.specs.Commands.{must_be}
+use Rattle.order.proofs.Filters.{every_more}
+use Rattle.order.proofs.Climbs.{fine_parts}
+use Rattle.order.proofs.Allowed.{Open}
 use Rattle.batch.specs.Several.{all_there, linked_on, closes, after_link}
 use Rattle.batch.proofs.SameCards.{as_long}
 use Rattle.batch.proofs.OneLink.{cards_stay, fine_after}

@@ -2,15 +2,15 @@
 use Rattle.std.proofs.Common.{◌≡◌, ℕ, ◌+◌, ◌≤◌, min, true, List, map, length, sym, refl, ap, ◌∙◌, arith}
 use Rattle.std.specs.List.{range_with_len}
 use Rattle.std.proofs.lemmas.Simd.{map-map}
-use Rattle.row.specs.declared.column.Column.{Column}
-use Rattle.row.specs.Lists.{has}
-use Rattle.row.specs.Columns.{cell, written, apart}
+use Rattle.memory.specs.declared.column.Column.{Column}
+use Rattle.order.specs.Lists.{has}
+use Rattle.memory.specs.Columns.{cell, written, apart}
 use Rattle.row.specs.Layout.{tally, ids, chain, slots, places, count}
 use Rattle.row.specs.Meaning.{row_of, cards, used, Stands}
 use Rattle.row.specs.Laws.{SameRow}
-use Rattle.row.proofs.Cells.{cell_apart}
+use Rattle.memory.proofs.Cells.{cell_apart}
 use Rattle.row.proofs.Depending.{depends}
-use Rattle.search.specs.MarkLaws.{Only}
+use Rattle.search.specs.SetLaws.{Only}
 use Rattle.batch.specs.Layout.{spare, numbers}
 use Rattle.batch.specs.Rule.{sorted}
 use Rattle.batch.specs.Arranging.{filled, card_at, slot_of, slot_at, ordered, looked_up, arranged_by, arranged}

@@ -1,16 +1,19 @@
 -- A link that is tried is put in, with the row as if the link were said alone, or it goes round, and the memory means the same board.
 use Rattle.std.proofs.Common.{◌≡◌, ℕ, ◌<◌, ◌≤◌, true, false, List, [], ◌∷◌, length, Some, None, Option, sym, refl, ap, ◌∙◌, subst, inl, inr, arith}
 use Rattle.std.proofs.lemmas.Bool.{cases_eq, cases_lt, both_ways, eq-eqb, ne_eqb, lt-ltb, le-ltb, and_from}
-use Rattle.row.specs.declared.board.Link.{Link}
-use Rattle.row.specs.declared.board.Command.TheVariants.{Link as Links}
-use Rattle.row.specs.Lists.{any, has, distinct}
-use Rattle.row.specs.Board.{Board, ◌⟶◌, linked, leads}
-use Rattle.row.specs.Commands.{must_be, goes_round, follows, last_of}
-use Rattle.row.specs.Columns.{cell}
-use Rattle.row.specs.Layout.{ids, places}
+use Rattle.order.specs.declared.board.Link.{Link}
+use Rattle.command.specs.declared.command.Command.TheVariants.{Link as Links}
+use Rattle.order.specs.Lists.{any, has, distinct}
+use Rattle.order.specs.Board.{Board, ◌⟶◌, linked, leads}
+use Rattle.command.specs.Commands.{must_be}
+use Rattle.order.specs.Reordering.{goes_round, follows, last_of}
+use Rattle.memory.specs.Columns.{cell}
+use Rattle.row.specs.declared.layout.TheConstants.{IDS, SEATS}
+use Rattle.row.specs.Layout.{IDS, SEATS}
 use Rattle.row.specs.Meaning.{cards}
-use Rattle.row.proofs.Filters.{same_itself}
-use Rattle.row.proofs.Leading.{leads_just}
+use Rattle.order.proofs.Filters.{same_itself}
+use Rattle.order.proofs.Leading.{leads_just}
+use Rattle.links.specs.declared.layout.TheConstants.{ENTRIES}
 use Rattle.links.specs.Layout.{live}
 use Rattle.links.specs.Entries.{joins as same_link}
 use Rattle.links.specs.Meaning.{edges, once}
@@ -28,14 +31,14 @@ use Rattle.keeper.proofs.Forward.{forward, no_round, put_means}
 use Rattle.keeper.proofs.Moving.{new, is_firm, keeps_all, goes_back, moved_means}
 use Rattle.keeper.proofs.Backward.{forgotten_ready, forgotten_edges, forgotten_tally, forgotten_board, goes}
 use Rattle.keeper.proofs.Opened.{open_keeps}
-use Rattle.row.proofs.Allowed.{Open}
+use Rattle.order.proofs.Allowed.{Open}
 use Rattle.keeper.specs.Reordering.{round_cards}
 use Rattle.batch.specs.Joining.{Joined, put_down, joined_slots, joined}
 use Rattle.batch.specs.Several.{after_link}
 use Rattle.batch.specs.JoinLaws.{PutIn, GoesRound, Joins}
 
 module _ (m : List ℕ) (R : Ready m) (o : once (edges m) ≡ true) (i : pending m ≡ 0) (l : Link) (sm : small_command (Links l) ≡ true)
-    (h : length (card_board m).links < 67584) where
+    (h : length (card_board m).links < ENTRIES) where
   abbrev r : Board
   r = card_board m
 
@@ -45,7 +48,7 @@ module _ (m : List ℕ) (R : Ready m) (o : once (edges m) ≡ true) (i : pending
   same : Means m r
   same = record { ready = R; single = o; idle = i; is = refl }
 
-  room : live m < 67584
+  room : live m < ENTRIES
   room = omega (arith, (names m R).length_links_named, (counts m R.tabled).0)
 
   module _ (s t : ℕ) (A : Seated m l.from s) (B : Seated m l.to t) (ha : has (cards m) l.from ≡ true) (hb : has (cards m) l.to ≡ true)
@@ -64,7 +67,7 @@ module _ (m : List ℕ) (R : Ready m) (o : once (edges m) ≡ true) (i : pending
     -- a card before itself
     itself : s ≡ t → Either
     itself e =
-        let k : l.from ≡ l.to = sym A.card ∙ ap (cell m ids) e ∙ B.card in
+        let k : l.from ≡ l.to = sym A.card ∙ ap (cell m IDS) e ∙ B.card in
         let ld = subst (λ (y : ℕ). leads r l.to y ≡ true) (sym k) (leads_just r l.to l.to l.to (fine_cards m R)).0 in
         let j = alone e in (
           (λ z. absurd (both_ways _ z ld)),
@@ -81,12 +84,12 @@ module _ (m : List ℕ) (R : Ready m) (o : once (edges m) ≡ true) (i : pending
       unfolding joined
       by_slots = rw (slots_there m R l s t A B, ne_eqb s t ne) refl
 
-      put_so : cell m places s ≤ cell m places t → joined m l ≡ put_down m x
+      put_so : cell m SEATS s ≤ cell m SEATS t → joined m l ≡ put_down m x
       unfolding joined_slots
-      put_so fw = by_slots ∙ rw (le-ltb (cell m places t) (cell m places s) fw) refl
+      put_so fw = by_slots ∙ rw (le-ltb (cell m SEATS t) (cell m SEATS s) fw) refl
 
       -- the first stands first already
-      ahead : cell m places s ≤ cell m places t → Either
+      ahead : cell m SEATS s ≤ cell m SEATS t → Either
       unfolding must_be
       ahead fw =
           let j = put_so fw in
@@ -104,7 +107,7 @@ module _ (m : List ℕ) (R : Ready m) (o : once (edges m) ≡ true) (i : pending
             λ y. absurd (both_ways _ z y),
           )
 
-      module _ (w : cell m places t < cell m places s) where
+      module _ (w : cell m SEATS t < cell m SEATS s) where
         abbrev m₁ : List ℕ
         m₁ = (meeting m x).memory
 
@@ -154,7 +157,7 @@ module _ (m : List ℕ) (R : Ready m) (o : once (edges m) ≡ true) (i : pending
       let n = sym (linked_is m R l.from l.to A.0 B.0 A.1 B.1) ∙ z in
       elim (cases_eq A.0 B.0) [
         | inl e ↦ itself A.0 B.0 A.1 B.1 ha hb n e
-        | inr e ↦ elim (cases_lt (cell m places B.0) (cell m places A.0)) [
+        | inr e ↦ elim (cases_lt (cell m SEATS B.0) (cell m SEATS A.0)) [
           | inl w ↦ found A.0 B.0 A.1 B.1 ha hb n e w (meeting m (A.0 ⟶ B.0)).answer refl
               (meets m A.0 B.0 R A.1.in_use B.1.in_use w)
           | inr w ↦ ahead A.0 B.0 A.1 B.1 ha hb n e w

@@ -2,12 +2,12 @@
 use Rattle.std.proofs.Common.{◌≡◌, ℕ, zero, suc, ◌+◌, ◌<◌, ◌≤◌, Bool, true, false, not, ◌&&◌, eqb, List, [], ◌∷◌, map, Some, None, sym, refl, ap, ◌∙◌, inl, inr, arith}
 use Rattle.std.specs.List.{range_with_len}
 use Rattle.std.proofs.lemmas.Bool.{cases_Bool, both_ways, eqb-true, and_parts, and_from, or_cases, or_left, or_right}
-use Rattle.row.specs.declared.board.Link.{Link}
-use Rattle.row.specs.Lists.{any, filter, has}
-use Rattle.row.specs.Lookup.{given}
-use Rattle.row.proofs.Filters.{has_filter}
-use Rattle.row.proofs.Ways.{joins}
-use Rattle.row.proofs.Chaining.{has_tail, has_head}
+use Rattle.order.specs.declared.board.Link.{Link}
+use Rattle.order.specs.Lists.{any, filter, has}
+use Rattle.memory.specs.Options.{given}
+use Rattle.order.proofs.Filters.{has_filter}
+use Rattle.order.proofs.Ways.{joins}
+use Rattle.order.proofs.Members.{has_tail, has_head}
 use Rattle.search.proofs.Listed.{head_of}
 use Rattle.batch.specs.Rule.{waits, first_free, without}
 

@@ -3,20 +3,20 @@ use Rattle.std.proofs.Common.{◌≡◌, ℕ, ◌+◌, ◌<◌, ◌≤◌, true,
 use lib.ListN.{length-map}
 use Rattle.std.proofs.lemmas.List.{append-nil, map-append}
 use Rattle.std.proofs.lemmas.Bool.{cases_Bool, cases_lt, lt-leb, le-leb, and_parts}
-use Rattle.row.specs.declared.board.Link.{Link}
-use Rattle.row.specs.declared.board.Refusal.{Refusal}
-use Rattle.row.specs.Lists.{every, has}
-use Rattle.row.specs.Board.{◌⟶◌}
-use Rattle.row.specs.Columns.{cell}
+use Rattle.order.specs.declared.board.Link.{Link}
+use Rattle.order.specs.declared.board.Refusal.{Refusal}
+use Rattle.order.specs.Lists.{every, has}
+use Rattle.order.specs.Board.{◌⟶◌}
+use Rattle.memory.specs.Columns.{cell}
 use Rattle.row.specs.Layout.{ids}
 use Rattle.row.specs.Meaning.{used, cards, Stands}
-use Rattle.row.specs.Renaming.{named}
+use Rattle.order.specs.Renaming.{named}
 use Rattle.row.specs.Laws.{SameRow}
 use Rattle.row.proofs.Present.{finds}
 use Rattle.row.proofs.Closes.{used_below}
 use Rattle.row.proofs.Depending.{depends}
-use Rattle.row.proofs.Filters.{every_more}
-use Rattle.row.proofs.RenamesLinks.{more_known}
+use Rattle.order.proofs.Filters.{every_more}
+use Rattle.order.proofs.RenamesLinks.{more_known}
 use Rattle.links.specs.Building.{inserted}
 use Rattle.links.specs.Frames.{Only}
 use Rattle.links.specs.Meaning.{edges, Tabled}

@@ -1,13 +1,16 @@
 -- Several links said at once are done or refused rightly.
 use Rattle.std.proofs.Common.{◌≡◌, ℕ, ◌+◌, ◌<◌, ◌≤◌, true, false, leb, ◌≢◌, List, ◌++◌, length, take, Some, None, Option, sym, refl, ap, ◌∙◌, subst, inl, inr, arith, length-append}
 use Rattle.std.proofs.lemmas.Bool.{cases_Bool, cases_lt, both_ways, le-leb, lt-leb, leb-true}
-use Rattle.row.specs.declared.board.Link.{Link}
-use Rattle.row.specs.declared.board.Refusal.{Refusal}
-use Rattle.row.specs.declared.board.Refusal.TheVariants.{Missing, Exists, Cycle, Full}
-use Rattle.row.specs.Lists.{every}
-use Rattle.row.specs.Board.{Board, keeps, fine}
-use Rattle.row.specs.Commands.{told_rows}
-use Rattle.row.proofs.Climbs.{fine_parts}
+use Rattle.memory.specs.declared.column.TheConstants.{MEMORY}
+use Rattle.order.specs.declared.board.TheConstants.{LINKS}
+use Rattle.order.specs.declared.board.Link.{Link}
+use Rattle.order.specs.declared.board.Refusal.{Refusal}
+use Rattle.order.specs.declared.board.Refusal.TheVariants.{Missing, Exists, Cycle, Full}
+use Rattle.order.specs.Lists.{every}
+use Rattle.order.specs.Board.{Board, keeps, fine}
+use Rattle.command.specs.Commands.{told_rows}
+use Rattle.order.proofs.Climbs.{fine_parts}
+use Rattle.links.specs.declared.layout.TheConstants.{ENTRIES}
 use Rattle.links.specs.Layout.{live}
 use Rattle.links.proofs.Operating.{counts}
 use Rattle.keeper.specs.Engine.{Ran}
@@ -19,6 +22,7 @@ use Rattle.keeper.proofs.Saying.{missing_is_not, exists_is_not, full_is_not}
 use Rattle.keeper.proofs.Carrying.{noted}
 use Rattle.keeper.proofs.Noting.{settles}
 use Rattle.keeper.proofs.ToldRuns.{from_first}
+use Rattle.batch.specs.declared.layout.TheConstants.{BATCH}
 use Rattle.batch.specs.declared.seating.Span.{Span}
 use Rattle.batch.specs.Several.{all_there, with_links, said_before, closes, several_refusal, Becomes, past_named}
 use Rattle.batch.specs.SeveralLaws.{Between}
@@ -65,7 +69,7 @@ settled r ls row f t b = record {
   alone = λ l e. ((several_single r l).1 row (subst (λ (xs : List Link). Becomes r xs row) e b)).0;
 }
 
-module _ (m : List ℕ) (r : Board) (ls : List Link) (long : length m ≡ 524288) (K : Keeps m r) (small : every small_link ls ≡ true) where
+module _ (m : List ℕ) (r : Board) (ls : List Link) (long : length m ≡ MEMORY) (K : Keeps m r) (small : every small_link ls ≡ true) where
   M : Means m r
   M = K.means
 
@@ -80,7 +84,7 @@ module _ (m : List ℕ) (r : Board) (ls : List Link) (long : length m ≡ 524288
       refused_so m r ls _ (run_is _ e ∙ first_refused m w) w z (refl, refl, (λ y. absurd (n y)), λ _. refl) K
 
   -- tried
-  module _ (few : leb (length ls) 256 ≡ true) (there : all_there r ls ≡ true) (fresh : said_before r ls ≡ false) where
+  module _ (few : leb (length ls) BATCH ≡ true) (there : all_there r ls ≡ true) (fresh : said_before r ls ≡ false) where
     abbrev o : Option Span
     o = span m ls
 
@@ -90,8 +94,8 @@ module _ (m : List ℕ) (r : Board) (ls : List Link) (long : length m ≡ 524288
     abbrev t : Tried
     t = tried m₀ ls 0
 
-    room : length r.links + length ls ≤ 67584
-    room = omega (arith, K.few, leb-true (length ls) 256 few)
+    room : length r.links + length ls ≤ ENTRIES
+    room = omega (arith, K.few, leb-true (length ls) BATCH few)
 
     said_is : said_several m ls ≡ by_trial t ls o
     unfolding said_several rearranged
@@ -177,20 +181,20 @@ module _ (m : List ℕ) (r : Board) (ls : List Link) (long : length m ≡ 524288
       abbrev brings : said_several m ls ≡ brought t.memory ls o
       brings = said_is ∙ trial_done t ls o A.no_way
 
-      too_many : 65536 < length r.links + length ls → StepKept own 3 m r (several ls)
+      too_many : LINKS < length r.links + length ls → StepKept own 3 m r (several ls)
       unfolding several_refusal Refused
       too_many h =
           let e = brings ∙ brought_full t.memory ls o (omega (arith, counted)) in
           refused_so m r ls _ (run_is _ e ∙ first_refused (undone t.memory ls o) Full) Full
-          (rw (few, there, fresh, flat, lt-leb _ 65536 h) refl)
+          (rw (few, there, fresh, flat, lt-leb _ LINKS h) refl)
           (refl, refl, (λ y. absurd (full_is_not y)), λ _. refl) (record { means = undone_all o refl A; few = K.few })
 
-      module _ (h : length r.links + length ls ≤ 65536) where
+      module _ (h : length r.links + length ls ≤ LINKS) where
         allowed : several_refusal r ls ≡ None
         unfolding several_refusal
-        allowed = rw (few, there, fresh, flat, le-leb _ 65536 h) refl
+        allowed = rw (few, there, fresh, flat, le-leb _ LINKS h) refl
 
-        fits_in : length (r.links ++ ls) ≤ 65536
+        fits_in : length (r.links ++ ls) ≤ LINKS
         fits_in = omega (arith, length-append r.links ls)
 
         unmoved : o ≡ None → StepKept own 3 m r (several ls)
@@ -238,14 +242,14 @@ module _ (m : List ℕ) (r : Board) (ls : List Link) (long : length m ≡ 524288
         by_part (Some s) e = moved s e
 
       all_in : StepKept own 3 m r (several ls)
-      all_in = elim (cases_lt 65536 (length r.links + length ls)) [
+      all_in = elim (cases_lt LINKS (length r.links + length ls)) [
         | inl h ↦ too_many h
         | inr h ↦ by_part h o refl
       ]
 
   pub several_links_kept : StepKept own 3 m r (several ls)
   unfolding several_refusal said_several
-  several_links_kept = elim (cases_Bool (leb (length ls) 256)) [
+  several_links_kept = elim (cases_Bool (leb (length ls) BATCH)) [
     | inr few ↦ at_once Full full_is_not (rw few refl) (rw few refl)
     | inl few ↦ elim (cases_Bool (all_there r ls)) [
       | inr there ↦ at_once Missing missing_is_not (rw (few, there) refl) (rw (few, finds_all m r ls M ∙ there) refl)

@@ -1,7 +1,7 @@
 -- The loops that fill the memory, step by step.
 use Rattle.std.proofs.Common.{◌≡◌, ℕ, ◌+◌, ◌<◌, ◌≤◌, List, length, get_or, drop, Some, None, Ok, Err, refl, ◌∙◌}
 use Rattle.std.proofs.lemmas.List.{at_drop_more, at_drop_all}
-use Rattle.row.specs.declared.board.Refusal.{Refusal}
+use Rattle.order.specs.declared.board.Refusal.{Refusal}
 use Rattle.row.specs.Moves.{came}
 use Rattle.batch.specs.Loading.{cards_come}
 

@@ -1,15 +1,16 @@
 -- Where a card is found depends on the columns of the look-up alone; and it is found just if it is there.
 use Rattle.std.proofs.Common.{◌≡◌, ℕ, zero, suc, ◌+◌, ◌&&◌, List, is_some, Some, None, Option, sym, refl, ap, ◌∙◌, ap₂, inl, inr}
 use Rattle.std.proofs.lemmas.Bool.{cases_Bool}
-use Rattle.row.specs.declared.board.Link.{Link}
-use Rattle.row.specs.Lists.{has}
-use Rattle.row.specs.Board.{◌⟶◌}
+use Rattle.order.specs.declared.board.Link.{Link}
+use Rattle.order.specs.Lists.{has}
+use Rattle.order.specs.Board.{◌⟶◌}
 use Rattle.row.specs.Meaning.{cards, Stands}
 use Rattle.row.proofs.Present.{finds}
 use Rattle.keeper.specs.Linking.{slots_found}
-use Rattle.row.specs.Columns.{cell}
+use Rattle.memory.specs.Columns.{cell}
 use Rattle.row.specs.Layout.{ids, chain}
-use Rattle.row.specs.Lookup.{bucket, given, followed, sought, found}
+use Rattle.row.specs.Lookup.{bucket, followed, sought, found}
+use Rattle.memory.specs.Options.{given}
 
 given_same : {X Y : Type 0} (o : Option X) (z : Y) (f g : X → Y) → ((x : X) → f x ≡ g x) → given o z f ≡ given o z g
 given_same None z f g h = refl

@@ -3,17 +3,17 @@ use Rattle.std.proofs.Common.{◌≡◌, ℕ, ◌+◌, ◌≤◌, min, true, fal
 use Rattle.std.specs.List.{range_with_len}
 use Rattle.std.proofs.lemmas.List.FromFn.{length-map-range_with_len}
 use Rattle.std.proofs.lemmas.Bool.{cases_lt, lt-ltb, le-ltb, and_parts}
-use Rattle.row.specs.declared.board.Link.{Link}
-use Rattle.row.specs.Lists.{has}
-use Rattle.row.specs.declared.column.Column.{Column}
-use Rattle.row.specs.Columns.{cell, apart}
+use Rattle.order.specs.declared.board.Link.{Link}
+use Rattle.order.specs.Lists.{has}
+use Rattle.memory.specs.declared.column.Column.{Column}
+use Rattle.memory.specs.Columns.{cell, apart}
 use Rattle.row.specs.Layout.{tally, ids, chain, slots, places, count}
 use Rattle.row.specs.Meaning.{row_of, cards, used, Stands}
 use Rattle.row.proofs.Depending.{depends}
-use Rattle.row.proofs.Filters.{every_at, every_has}
+use Rattle.order.proofs.Filters.{every_at, every_has}
 use Rattle.row.proofs.Named.{row_used}
 use Rattle.row.proofs.Closes.{used_below}
-use Rattle.row.proofs.Tabulated.{has_made}
+use Rattle.order.proofs.Tabulated.{has_made}
 use Rattle.links.specs.Layout.{end}
 use Rattle.links.specs.Chains.{dead}
 use Rattle.links.specs.Entries.{link_at}
@@ -24,8 +24,8 @@ use Rattle.links.proofs.Bounding.{writes_only}
 use Rattle.links.proofs.Operating.{rebuilds}
 use Rattle.links.proofs.Sameness.{edges_alike, tabled_alike}
 use Rattle.search.specs.Layout.{fore}
-use Rattle.search.specs.Marks.{marked}
-use Rattle.search.specs.MarkLaws.{Summed}
+use Rattle.memory.specs.PlaceSets.{marked}
+use Rattle.memory.specs.PlaceSetLaws.{Summed}
 use Rattle.search.specs.Meaning.{slot_on}
 use Rattle.search.proofs.Sounding.{marked_same, summed_same}
 use Rattle.keeper.proofs.Carrying.{links_same}

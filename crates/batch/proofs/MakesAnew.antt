@@ -1,8 +1,8 @@
 -- A row is made anew from any cards and links: the row by the rule is shown, or a circle of the links, or it is refused.
 use Rattle.std.proofs.Common.{◌≡◌, ℕ, ◌≤◌, true, List, ◌++◌, length, drop, replicate, Some, None, Option, refl, ap, ◌∙◌, inl, inr, arith, Ok, Err}
 use Rattle.std.proofs.lemmas.Bool.{cases_eq}
-use Rattle.row.specs.declared.board.Link.{Link}
-use Rattle.row.specs.declared.board.Refusal.{Refusal}
+use Rattle.order.specs.declared.board.Link.{Link}
+use Rattle.order.specs.declared.board.Refusal.{Refusal}
 use Rattle.keeper.specs.declared.event.Reason.TheVariants.{Board}
 use Rattle.batch.specs.declared.making_anew.Anew.TheVariants.{Row, Circle}
 use Rattle.batch.specs.Several.{circle}

@@ -1,8 +1,8 @@
 -- The ways in which a row is made anew: refused, shown, or a circle shown.
 use Rattle.std.proofs.Common.{◌≡◌, ℕ, ◌<◌, ◌≤◌, false, List, length, replicate, Some, None, Err}
 use Rattle.std.proofs.lemmas.Bool.{lt-ltb, le-ltb, le-leb, eq-eqb}
-use Rattle.row.specs.declared.board.Link.{Link}
-use Rattle.row.specs.declared.board.Refusal.{Refusal}
+use Rattle.order.specs.declared.board.Link.{Link}
+use Rattle.order.specs.declared.board.Refusal.{Refusal}
 use Rattle.row.specs.Layout.{count}
 use Rattle.keeper.specs.declared.event.Reason.TheVariants.{Unfit, Board}
 use Rattle.keeper.specs.Own.{step_fits}

@@ -1,9 +1,9 @@
 -- Two rows of the same cards, which are the same before one place and from another on, have the same cards between the two places.
 use Rattle.std.proofs.Common.{◌≡◌, ℕ, ◌+◌, true, false, List, [], ◌∷◌, map, take, drop, sym, refl, ap, ◌∙◌, inl, inr, arith, length-take}
 use Rattle.std.proofs.lemmas.Bool.{cases_Bool, cases_eq, both_ways}
-use Rattle.row.specs.Lists.{any, has, distinct}
-use Rattle.row.proofs.Places.{place_below, place_take, has_take, has_from_take, place_drop, has_drop, has_from_drop, behind_from_drop}
-use Rattle.row.proofs.Chaining.{has_head, has_tail, has_on, has_at}
+use Rattle.order.specs.Lists.{any, has, distinct}
+use Rattle.order.proofs.Places.{place_below, place_take, has_take, has_from_take, place_drop, has_drop, has_from_drop, behind_from_drop}
+use Rattle.order.proofs.Members.{has_head, has_tail, has_on, has_at}
 use Rattle.batch.proofs.Within.{Within, within_more, within_not}
 use Rattle.batch.proofs.Ends.{SameEnds, inside}
 

@@ -1,11 +1,11 @@
 -- For each slot that a link goes into from one that hasn't come, such a one is noted.
 use Rattle.std.proofs.Common.{◌≡◌, ℕ, zero, suc, ◌+◌, ◌<◌, ◌≤◌, true, cond, List, length, sym, refl, ap, ◌∙◌, inl, inr, arith}
 use Rattle.std.proofs.lemmas.Bool.{cases_Bool, cases_eq}
-use Rattle.row.specs.declared.column.Column.{Column}
-use Rattle.row.specs.Columns.{cell, written, apart}
-use Rattle.row.proofs.Cells.{cell_same, cell_other}
+use Rattle.memory.specs.declared.column.Column.{Column}
+use Rattle.memory.specs.Columns.{cell, written, apart}
+use Rattle.memory.proofs.Cells.{cell_same, cell_other}
 use Rattle.links.specs.Layout.{froms, tos}
-use Rattle.search.proofs.Frames.{small_cell}
+use Rattle.memory.proofs.Cells.{small_cell}
 use Rattle.batch.specs.Layout.{leaves, numbers}
 use Rattle.batch.specs.Circling.{stays, noted, noted_all}
 use Rattle.batch.proofs.Beside.{Beside, beside_on, beside_written}

@@ -1,17 +1,18 @@
 -- One link that doesn't go round: there is a row that it has to make, and with it the board is fine. However many links there are.
 use Rattle.std.proofs.Common.{◌≡◌, ℕ, ◌<◌, true, ltb, List, ◌∷◌, ◌++◌, sym, ◌∙◌, inl, inr}
 use Rattle.std.proofs.lemmas.Bool.{ltb-true, cases_Bool, and_parts}
-use Rattle.row.specs.declared.board.Link.{Link}
-use Rattle.row.specs.declared.board.Command.TheVariants.{Link as Links}
-use Rattle.row.specs.Lists.{every, has, place, distinct}
-use Rattle.row.specs.Board.{Board, keeps, fine}
-use Rattle.row.specs.Commands.{with_link, backward, must_be}
-use Rattle.row.proofs.Filters.{every_append, same_itself}
-use Rattle.row.proofs.Climbs.{fine_parts, link_before}
-use Rattle.row.proofs.Allowed.{Open, forward_kept, keeps_more}
-use Rattle.row.proofs.Firm.{firm_row, firm_is, firm_keeps}
-use Rattle.row.proofs.Little.{link_has}
-use Rattle.row.proofs.Only.{must_may}
+use Rattle.order.specs.declared.board.Link.{Link}
+use Rattle.command.specs.declared.command.Command.TheVariants.{Link as Links}
+use Rattle.order.specs.Lists.{every, has, place, distinct}
+use Rattle.order.specs.Board.{Board, keeps, fine}
+use Rattle.order.specs.Reordering.{with_link, backward}
+use Rattle.command.specs.Commands.{must_be}
+use Rattle.order.proofs.Filters.{every_append, same_itself}
+use Rattle.order.proofs.Climbs.{fine_parts, link_before}
+use Rattle.order.proofs.Allowed.{Open, forward_kept, keeps_more}
+use Rattle.order.proofs.Firm.{firm_row, firm_is, firm_keeps}
+use Rattle.order.proofs.Little.{link_has}
+use Rattle.command.proofs.Staying.{must_may}
 use Rattle.keeper.proofs.Opened.{open_stays}
 use Rattle.batch.specs.Several.{after_link}
 

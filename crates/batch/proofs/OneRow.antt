@@ -1,17 +1,18 @@
 -- A link that doesn't go round makes one row only. However many links there are.
 use Rattle.std.proofs.Common.{◌≡◌, ℕ, true, List, [], ◌++◌, sym, ◌∙◌, ap₂, inl, inr, arith}
 use Rattle.std.proofs.lemmas.Bool.{cases_Bool}
-use Rattle.row.specs.declared.board.Link.{Link}
-use Rattle.row.specs.declared.board.Command.TheVariants.{Link as Links}
-use Rattle.row.specs.Lists.{filter}
-use Rattle.row.specs.Board.{Board, ◌⟶◌, keeps, fine, leads}
-use Rattle.row.specs.Commands.{with_link, backward, touched, firm, must_be}
-use Rattle.row.proofs.Filters.{same_is}
-use Rattle.row.proofs.Climbs.{fine_parts}
-use Rattle.row.proofs.Leading.{leads_before}
-use Rattle.row.proofs.Allowed.{Open, sides_apart, itself}
-use Rattle.row.proofs.Little.{Little, little_apart, little_has}
-use Rattle.row.proofs.Only.{same_row, both_tests, firm_parts, upto_by_test}
+use Rattle.order.specs.declared.board.Link.{Link}
+use Rattle.command.specs.declared.command.Command.TheVariants.{Link as Links}
+use Rattle.order.specs.Lists.{filter}
+use Rattle.order.specs.Board.{Board, ◌⟶◌, keeps, fine, leads}
+use Rattle.order.specs.Reordering.{with_link, backward, touched, firm}
+use Rattle.command.specs.Commands.{must_be}
+use Rattle.order.proofs.Filters.{same_is}
+use Rattle.order.proofs.Climbs.{fine_parts}
+use Rattle.order.proofs.Leading.{leads_before}
+use Rattle.order.proofs.Allowed.{Open, sides_apart, itself}
+use Rattle.order.proofs.Little.{Little, little_apart, little_has}
+use Rattle.order.proofs.Only.{same_row, both_tests, firm_parts, upto_by_test}
 use Rattle.batch.proofs.OneLink.{kept_link}
 
 module _ (r : Board) (fi : fine r ≡ true) (a b : ℕ) (o : Open r a b) where

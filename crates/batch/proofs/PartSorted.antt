@@ -8,11 +8,11 @@ use Rattle.std.proofs.lemmas.Bool.{cases_lt, le-leb, and_from}
 use Rattle.std.proofs.lemmas.List.{drop-drop, drop_at, take_at, length-take-le, length-append, length-take, length-drop, places}
 use Rattle.std.proofs.lemmas.List.Edits.{length-between}
 use Rattle.std.proofs.lemmas.List.Sorted.{length_permutation}
-use Rattle.row.specs.declared.column.Column.{Column}
-use Rattle.row.specs.Columns.{cell}
-use Rattle.row.specs.Lists.{every}
-use Rattle.row.proofs.Filters.{every_append, every_take}
-use Rattle.row.proofs.RenamesLists.{every_drop}
+use Rattle.memory.specs.declared.column.Column.{Column}
+use Rattle.memory.specs.Columns.{cell}
+use Rattle.order.specs.Lists.{every}
+use Rattle.order.proofs.Filters.{every_append, every_take}
+use Rattle.order.proofs.RenamesLists.{every_drop}
 use Rattle.keeper.specs.Promise.{all_small}
 use Rattle.keeper.specs.Sized.{KeepsSize}
 use Rattle.batch.specs.Rule.{sorted}

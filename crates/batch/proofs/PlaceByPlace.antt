@@ -1,6 +1,6 @@
 -- What is done place by place: the steps of such a loop.
 use Rattle.std.proofs.Common.{◌≡◌, ℕ, ◌+◌, ◌-◌, ◌<◌, ◌≤◌, List}
-use Rattle.row.proofs.Fuel.{fuel_step, fuel_end}
+use Rattle.memory.proofs.Fuel.{fuel_step, fuel_end}
 use Rattle.batch.specs.Listing.{at_each}
 
 pub each_go : (step : List ℕ → ℕ → List ℕ) (N i : ℕ) (m : List ℕ) → i < N →

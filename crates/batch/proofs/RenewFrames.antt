@@ -1,9 +1,9 @@
 -- What making the row anew leaves as it was, whatever the memory.
 use Rattle.std.proofs.Common.{◌≡◌, ℕ, zero, suc, ◌+◌, min, true, List, refl, ◌∙◌, arith}
-use Rattle.row.specs.declared.column.Column.{Column}
-use Rattle.row.specs.Columns.{cell, written, apart}
+use Rattle.memory.specs.declared.column.Column.{Column}
+use Rattle.memory.specs.Columns.{cell, written, apart}
 use Rattle.row.specs.Layout.{tally, slots, count}
-use Rattle.row.proofs.Walking.{given_holds}
+use Rattle.memory.proofs.Options.{given_holds}
 use Rattle.links.specs.declared.chain.Chain.TheVariants.{Out}
 use Rattle.links.specs.declared.chain.Meeting.{Meeting}
 use Rattle.links.specs.declared.chain.Meeting.TheVariants.{End, Dead, Living}
@@ -14,8 +14,10 @@ use Rattle.links.specs.Frames.{words}
 use Rattle.links.proofs.Bounding.{writes_only, writes_words}
 use Rattle.links.proofs.Sameness.{aside_parts}
 use Rattle.search.specs.Layout.{fore}
-use Rattle.search.specs.Marks.{removed, first_mark}
-use Rattle.search.proofs.Frames.{Small, small_cell, only_removed}
+use Rattle.memory.specs.PlaceSets.{removed, first_mark}
+use Rattle.memory.specs.Footprints.{Small}
+use Rattle.memory.proofs.Cells.{small_cell}
+use Rattle.search.proofs.Frames.{only_removed}
 use Rattle.search.proofs.Touching.{stepped_apart}
 use Rattle.keeper.specs.Promise.{all_small}
 use Rattle.keeper.proofs.OwnSize.{small_each, each_small, size_each}

@@ -1,11 +1,11 @@
 -- The steps of the loops that make the row anew.
 use Rattle.std.proofs.Common.{◌≡◌, ℕ, ◌+◌, ◌-◌, ◌<◌, ◌≤◌, List, Some, None}
-use Rattle.row.specs.Lookup.{given}
-use Rattle.row.proofs.Fuel.{fuel_step, fuel_end}
+use Rattle.memory.specs.Options.{given}
+use Rattle.memory.proofs.Fuel.{fuel_step, fuel_end}
 use Rattle.links.specs.declared.chain.Chain.TheVariants.{Out}
 use Rattle.links.specs.Chains.{met, stepped}
 use Rattle.search.specs.Layout.{fore}
-use Rattle.search.specs.Marks.{first_mark}
+use Rattle.memory.specs.PlaceSets.{first_mark}
 use Rattle.batch.specs.Renewing.{next_by, left_by, released, drawn, Renewed, renewing}
 
 released_at : (N i : ℕ) (m : List ℕ) (p : ℕ) → i < N →

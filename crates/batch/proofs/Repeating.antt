@@ -1,9 +1,9 @@
 -- Of links between cards that are there, one is repeated just if it was said before.
 use Rattle.std.proofs.Common.{Bool, ◌||◌, ap, ◌≡◌, ℕ, true, List, [], ◌∷◌, ◌++◌, sym, refl, ◌∙◌, subst, append_assoc, append-nil}
 use Rattle.std.specs.List.{list_any}
-use Rattle.row.specs.Lists.{any}
-use Rattle.row.specs.declared.board.Link.{Link}
-use Rattle.row.specs.Board.{Board}
+use Rattle.order.specs.Lists.{any}
+use Rattle.order.specs.declared.board.Link.{Link}
+use Rattle.order.specs.Board.{Board}
 use Rattle.links.specs.Entries.{joins}
 use Rattle.links.proofs.Edging.{any_append}
 use Rattle.search.specs.Meaning.{Ready}

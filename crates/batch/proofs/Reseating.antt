@@ -4,14 +4,14 @@ use Rattle.std.specs.List.{range_with_len}
 use Rattle.std.proofs.lemmas.List.{length-map, map-id}
 use Rattle.std.proofs.lemmas.List.FromFn.{length-map-range_with_len, take-map-range_with_len}
 use Rattle.std.proofs.lemmas.Bool.{cases_Bool}
-use Rattle.row.specs.Lists.{has, distinct}
-use Rattle.row.specs.Columns.{cell, written}
+use Rattle.order.specs.Lists.{has, distinct}
+use Rattle.memory.specs.Columns.{cell, written}
 use Rattle.row.specs.Layout.{tally, ids, chain, slots, places, count, fresh}
 use Rattle.row.specs.Meaning.{row_of, in_use, used, Standing, Stands}
-use Rattle.row.proofs.Cells.{length_written}
-use Rattle.row.proofs.Tabulated.{made_same, made_has, has_made, drop_made, take_made}
-use Rattle.row.proofs.Parts.{with_part, row_in_parts}
-use Rattle.search.proofs.Frames.{small_written, small_cell}
+use Rattle.memory.proofs.Cells.{length_written}
+use Rattle.order.proofs.Tabulated.{made_same, made_has, has_made, drop_made, take_made}
+use Rattle.order.proofs.Parts.{with_part, row_in_parts}
+use Rattle.memory.proofs.Cells.{small_written, small_cell}
 use Rattle.search.proofs.Listed.{counting_has, counting_once}
 use Rattle.search.proofs.Exchanged.{with_at, at_here, exchanged, exchanged_out}
 use Rattle.search.proofs.Dealing.{put_one, put, put_one_apart, put_slots, put_places}

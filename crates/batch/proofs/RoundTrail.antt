@@ -2,10 +2,10 @@
 use Rattle.std.proofs.Common.{◌≡◌, ℕ, zero, suc, ◌<◌, ◌≤◌, Bool, true, false, List, [], ◌∷◌, refl, ap, ◌∙◌, subst, inl, inr, arith}
 use mathlib.Core.List.{reverse_aux}
 use Rattle.std.proofs.lemmas.Bool.{cases_Bool, cases_eq, eq-eqb, ne_eqb, and_from}
-use Rattle.row.specs.Lists.{every, any, has, distinct}
-use Rattle.row.specs.Board.{Board, linked}
-use Rattle.row.specs.Commands.{follows, last_of}
-use Rattle.row.proofs.Chaining.{has_on}
+use Rattle.order.specs.Lists.{every, any, has, distinct}
+use Rattle.order.specs.Board.{Board, linked}
+use Rattle.order.specs.Reordering.{follows, last_of}
+use Rattle.order.proofs.Members.{has_on}
 use Rattle.search.specs.Way.{trail}
 use Rattle.search.proofs.Rounds.{Runs, runs_more}
 use Rattle.batch.specs.Several.{circle}

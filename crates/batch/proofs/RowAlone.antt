@@ -1,6 +1,6 @@
 -- What is left of links and marks when the row is put into another order.
 use Rattle.std.proofs.Common.{◌≡◌, ℕ, List, refl}
-use Rattle.row.specs.Columns.{cell}
+use Rattle.memory.specs.Columns.{cell}
 use Rattle.row.specs.Layout.{tally}
 use Rattle.links.specs.declared.chain.Chain.{Chain}
 use Rattle.links.specs.declared.chain.Chain.TheVariants.{Out, In, Pair}

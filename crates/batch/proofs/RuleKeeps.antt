@@ -2,11 +2,11 @@
 use Rattle.std.proofs.Common.{◌≡◌, ℕ, ◌<◌, true, false, ◌&&◌, ltb, List, [], ◌∷◌, sym, refl, subst, inl, inr, arith}
 use Rattle.std.proofs.lemmas.Bool.Decides.{nat_tests}
 use Rattle.std.proofs.lemmas.Bool.{cases_Bool, cases_eq, both_ways, and_parts, lt-ltb, ltb-true}
-use Rattle.row.specs.declared.board.Link.{Link}
-use Rattle.row.specs.Lists.{any, has, place, distinct}
-use Rattle.row.proofs.Filters.{every_at, every_from}
-use Rattle.row.proofs.Chaining.{has_tail, has_at, not_again, distinct_tail}
-use Rattle.row.proofs.Ways.{joins}
+use Rattle.order.specs.declared.board.Link.{Link}
+use Rattle.order.specs.Lists.{any, has, place, distinct}
+use Rattle.order.proofs.Filters.{every_at, every_from}
+use Rattle.order.proofs.Members.{has_tail, has_at, not_again, distinct_tail}
+use Rattle.order.proofs.Ways.{joins}
 use Rattle.batch.specs.Rule.{waits, without, Ruled}
 use Rattle.batch.specs.RuleLaws.{RuledKeeps, KeptIsRuled}
 use Rattle.batch.proofs.Within.{has_without, without_head}

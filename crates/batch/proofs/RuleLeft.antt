@@ -2,11 +2,11 @@
 use Rattle.std.proofs.Common.{◌≡◌, ℕ, zero, suc, ◌<◌, true, false, List, [], ◌∷◌, length, sym, refl, ap, ◌∙◌, inl, inr, arith}
 use Rattle.std.proofs.lemmas.Bool.{cases_Bool, both_ways}
 use Rattle.std.proofs.lemmas.Bool.Decides.{nat_tests}
-use Rattle.row.specs.declared.board.Link.{Link}
-use Rattle.row.specs.Lists.{any, has, distinct}
-use Rattle.row.proofs.Filters.{distinct_filter}
-use Rattle.row.proofs.Chaining.{has_head, has_tail, has_at, not_again, distinct_tail}
-use Rattle.row.proofs.Ways.{joins}
+use Rattle.order.specs.declared.board.Link.{Link}
+use Rattle.order.specs.Lists.{any, has, distinct}
+use Rattle.order.proofs.Filters.{distinct_filter}
+use Rattle.order.proofs.Members.{has_head, has_tail, has_at, not_again, distinct_tail}
+use Rattle.order.proofs.Ways.{joins}
 use Rattle.batch.specs.Rule.{first_free, without, by_rule, anew}
 use Rattle.batch.proofs.Within.{has_without, without_has, without_shorter, length_without}
 use Rattle.batch.proofs.RuleSteps.{first_next, none_free, waits_for}

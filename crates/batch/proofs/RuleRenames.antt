@@ -2,14 +2,14 @@
 use Rattle.std.proofs.Common.{◌≡◌, ℕ, zero, suc, Bool, true, ◌&&◌, eqb, List, [], ◌∷◌, map, length, Some, None, sym, refl, ap, ◌∙◌, inl, inr}
 use lib.ListN.{length-map}
 use Rattle.std.proofs.lemmas.Bool.{cases_Bool, and_parts}
-use Rattle.row.specs.declared.board.Link.{Link}
-use Rattle.row.specs.Lists.{every, has}
-use Rattle.row.specs.Lookup.{given}
-use Rattle.row.specs.Renaming.{named, Naming}
-use Rattle.row.proofs.Filters.{every_has, every_filter_more}
-use Rattle.row.proofs.RenamesTests.{any_map}
-use Rattle.row.proofs.RenamesLists.{eqb_named, has_map, without_map}
-use Rattle.row.proofs.RenamesLinks.{Known}
+use Rattle.order.specs.declared.board.Link.{Link}
+use Rattle.order.specs.Lists.{every, has}
+use Rattle.memory.specs.Options.{given}
+use Rattle.order.specs.Renaming.{named, Naming}
+use Rattle.order.proofs.Filters.{every_has, every_filter_more}
+use Rattle.order.proofs.RenamesTests.{any_map}
+use Rattle.order.proofs.RenamesLists.{eqb_named, has_map, without_map}
+use Rattle.order.proofs.RenamesLinks.{Known}
 use Rattle.batch.specs.Rule.{waits, first_free, without, by_rule, anew}
 use Rattle.batch.proofs.RuleSteps.{first_next}
 use Rattle.batch.proofs.RuleRows.{none_or_some, by_rule_next, by_rule_ends}

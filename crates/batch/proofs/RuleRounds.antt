@@ -1,12 +1,12 @@
 -- Not all cards come by the rule just if the links go round among them.
 use Rattle.std.proofs.Common.{◌≡◌, ℕ, zero, suc, ◌<◌, ◌≤◌, true, false, List, [], ◌∷◌, length, refl, ap, inl, inr, arith}
 use Rattle.std.proofs.lemmas.Bool.{cases_lt, both_ways}
-use Rattle.row.specs.declared.board.Link.{Link}
-use Rattle.row.specs.Lists.{every, any, has, place, distinct}
-use Rattle.row.specs.Board.{Board}
-use Rattle.row.specs.Commands.{follows}
-use Rattle.row.proofs.Filters.{distinct_filter}
-use Rattle.row.proofs.Chaining.{has_head}
+use Rattle.order.specs.declared.board.Link.{Link}
+use Rattle.order.specs.Lists.{every, any, has, place, distinct}
+use Rattle.order.specs.Board.{Board}
+use Rattle.order.specs.Reordering.{follows}
+use Rattle.order.proofs.Filters.{distinct_filter}
+use Rattle.order.proofs.Members.{has_head}
 use Rattle.batch.specs.Several.{circle}
 use Rattle.batch.specs.Rule.{waits, first_free, without, by_rule, anew}
 use Rattle.batch.specs.RuleLaws.{AnewRound}

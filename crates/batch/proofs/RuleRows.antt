@@ -2,10 +2,10 @@
 use Rattle.std.proofs.Common.{◌≡◌, ℕ, zero, suc, true, false, not, eqb, ◌⊎◌, List, [], ◌∷◌, length, Some, None, Option, sym, refl, ap, ◌∙◌, subst, ap₂, inl, inr, arith}
 use Rattle.std.proofs.lemmas.Bool.Decides.{nat_tests}
 use Rattle.std.proofs.lemmas.Bool.{cases_order, both_ways, and_from}
-use Rattle.row.specs.declared.board.Link.{Link}
-use Rattle.row.specs.Lists.{any, has, place, distinct}
-use Rattle.row.proofs.Places.{place_same}
-use Rattle.row.proofs.Filters.{has_filter, distinct_filter}
+use Rattle.order.specs.declared.board.Link.{Link}
+use Rattle.order.specs.Lists.{any, has, place, distinct}
+use Rattle.order.proofs.Places.{place_same}
+use Rattle.order.proofs.Filters.{has_filter, distinct_filter}
 use Rattle.batch.specs.Rule.{first_free, without, by_rule, anew, Ruled}
 use Rattle.batch.specs.RuleLaws.{AnewRuled, RuledOnly, RuledCards}
 use Rattle.batch.proofs.Within.{length_without}

@@ -2,10 +2,10 @@
 use Rattle.std.proofs.Common.{◌≡◌, ℕ, ◌<◌, true, false, eqb, List, [], ◌∷◌, Some, None, sym, refl, ap, ◌∙◌, subst, inl, inr, arith}
 use Rattle.std.proofs.lemmas.Bool.Decides.{nat_tests}
 use Rattle.std.proofs.lemmas.Bool.{cases_Bool, cases_eq, both_ways, or_cases, or_right, and_parts, eq-eqb}
-use Rattle.row.specs.declared.board.Link.{Link}
-use Rattle.row.specs.Lists.{any, has, place}
-use Rattle.row.proofs.Chaining.{has_head, has_tail, has_on}
-use Rattle.row.proofs.Ways.{joins}
+use Rattle.order.specs.declared.board.Link.{Link}
+use Rattle.order.specs.Lists.{any, has, place}
+use Rattle.order.proofs.Members.{has_head, has_tail, has_on}
+use Rattle.order.proofs.Ways.{joins}
 use Rattle.batch.specs.Rule.{waits, first_free}
 
 -- a card waits just if one that is left is linked to it

@@ -2,11 +2,13 @@
 use Rattle.std.proofs.Common.{Ok, ◌≡◌, ℕ, zero, suc, true, leb, List, [], ◌∷◌, length, refl, ap, ◌∙◌, inl, inr, arith}
 use Rattle.std.proofs.lemmas.List.{take_all}
 use Rattle.std.proofs.lemmas.Bool.{cases_Bool, eq-eqb}
-use Rattle.row.specs.declared.board.Command.{Command}
-use Rattle.row.specs.declared.board.Refusal.{Refusal}
-use Rattle.row.specs.declared.board.Refusal.TheVariants.{Missing, Exists, Cycle, Full}
-use Rattle.row.specs.Commands.{number, Told}
+use Rattle.command.specs.declared.command.Command.{Command}
+use Rattle.order.specs.declared.board.Refusal.{Refusal}
+use Rattle.order.specs.declared.board.Refusal.TheVariants.{Missing, Exists, Cycle, Full}
+use Rattle.order.specs.Reordering.{number}
+use Rattle.command.specs.Commands.{Told}
 use Rattle.search.specs.Meaning.{Ready}
+use Rattle.keeper.specs.declared.layout.TheConstants.{TOLD}
 use Rattle.keeper.specs.declared.event.Event.TheVariants.{Said, Next}
 use Rattle.keeper.specs.declared.event.Act.TheVariants.{Shows, Done}
 use Rattle.keeper.specs.Engine.{Action, tells, shows, done, refused, action_of, ran, one_act, runs as keeper_runs, run_of as keeper_run_of}
@@ -25,7 +27,7 @@ use Rattle.batch.specs.Own.{when_idle, answer, guarded, own}
 act_same : (go go₁ : Go) → ((m : List ℕ) (ts : List Told) (ss : List (List ℕ)) → go m ts ss ≡ go₁ m ts ss) →
     (ts : List Told) (ss : List (List ℕ)) (m : List ℕ) (a : Action) → one_act go ts ss m a ≡ one_act go₁ ts ss m a
 unfolding one_act
-act_same go go₁ e ts ss m (tells i ks) = elim (cases_Bool (leb (length ks) 4096)) [
+act_same go go₁ e ts ss m (tells i ks) = elim (cases_Bool (leb (length ks) TOLD)) [
   | inl t ↦ rw t (e m _ ss)
   | inr t ↦ rw t
 ]

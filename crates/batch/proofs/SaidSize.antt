@@ -2,11 +2,12 @@
 use Rattle.std.proofs.Common.{Ok, ◌≡◌, ℕ, ◌+◌, ◌-◌, ◌<◌, ◌≤◌, min, true, eqb, ltb, leb, List, [], ◌∷◌, length, take, Some, None, Option, arith}
 use lib.ListN.{length-map}
 use Rattle.std.proofs.lemmas.Bool.{and_parts, ltb-true, cond_both}
-use Rattle.row.specs.declared.board.Command.TheVariants.{Link as Links}
-use Rattle.row.specs.declared.board.Link.{Link}
-use Rattle.row.specs.declared.board.Refusal.TheVariants.{Missing, Exists, Full}
-use Rattle.row.specs.Lists.{every}
-use Rattle.row.specs.Columns.{cell}
+use Rattle.order.specs.declared.board.TheConstants.{CARDS, LINKS}
+use Rattle.command.specs.declared.command.Command.TheVariants.{Link as Links}
+use Rattle.order.specs.declared.board.Link.{Link}
+use Rattle.order.specs.declared.board.Refusal.TheVariants.{Missing, Exists, Full}
+use Rattle.order.specs.Lists.{every}
+use Rattle.memory.specs.Columns.{cell}
 use Rattle.row.specs.Layout.{tally, ids, places}
 use Rattle.links.specs.Layout.{live}
 use Rattle.search.specs.Layout.{via}
@@ -20,13 +21,14 @@ use Rattle.keeper.specs.Linking.{slots_found}
 use Rattle.keeper.specs.Reordering.{round_cards}
 use Rattle.keeper.proofs.Size.{small_map, small_cell, size_same, size_then, size_written}
 use Rattle.keeper.proofs.OwnSize.{BothBelow, size_inserted, size_removed, size_meeting, size_forgotten, size_settled, size_pending, Sized, sized_done, sized_refuses, sized_then, sized_cond, sized_shows, small_one, both_found, Any, sized_on}
+use Rattle.batch.specs.declared.layout.TheConstants.{BATCH}
 use Rattle.batch.specs.declared.seating.Span.{Span}
 use Rattle.batch.specs.Checking.{all_found, repeated, wider, widened, spanned, moving, no_span, span}
 use Rattle.batch.specs.Joining.{Joined, joined_slots, joined, Tried, tried, dropped, taken_out}
 use Rattle.batch.specs.Saying.{noting, told_span, part_aside, undone, brought, by_trial, rearranged, said_several}
 use Rattle.batch.specs.Seating.{reseated}
-use Rattle.row.specs.Lookup.{given}
-use Rattle.row.proofs.Walking.{given_holds}
+use Rattle.memory.specs.Options.{given}
+use Rattle.memory.proofs.Options.{given_holds}
 use Rattle.keeper.specs.Answers.{quiet, ends}
 use Rattle.keeper.specs.declared.event.Act.TheVariants.{Done}
 use Rattle.batch.specs.declared.checking.Named.{Named}
@@ -36,7 +38,7 @@ use Rattle.batch.proofs.Reseating.{reseats_only}
 -- a way to be shown
 abbrev WayFits : List ℕ → Option (List ℕ) → Type 0
 WayFits m None = Unit {0}
-WayFits m (Some ks) = (length ks ≤ 8192) × (all_small m ≡ true → all_small ks ≡ true)
+WayFits m (Some ks) = (length ks ≤ CARDS) × (all_small m ≡ true → all_small ks ≡ true)
 
 way_then : (m m₁ : List ℕ) (o : Option (List ℕ)) → KeepsSize m m₁ → WayFits m₁ o → WayFits m o
 way_then m m₁ None b w = tt
@@ -45,8 +47,8 @@ way_then m m₁ (Some ks) b w = (w.0, λ h. w.1 (b.1 h))
 round_fits : (m : List ℕ) (x y : Link) → WayFits m (Some (round_cards m x y))
 unfolding round_cards
 round_fits m x y =
-    let w = way (cell m via) 8192 x y in
-    (omega (arith, length-map w (cell m ids), way_few (cell m via) 8192 x y), λ h. small_map (cell m ids) (λ k. small_cell m ids k h) w)
+    let w = way (cell m via) CARDS x y in
+    (omega (arith, length-map w (cell m ids), way_few (cell m via) CARDS x y), λ h. small_map (cell m ids) (λ k. small_cell m ids k h) w)
 
 -- a link is tried
 abbrev JoinedFits : List ℕ → Joined → Type 0
@@ -96,7 +98,7 @@ size_taken_out m (l ∷ ls) = size_then m (dropped m l) _ (size_dropped m l) (si
 
 -- the part of the row that may change
 record Bounded (s : Span) : Type 0 where
-  low : s.low ≤ 8192
+  low : s.low ≤ CARDS
   high : s.high < 18446744073709551616
 
 abbrev BoundedNamed : Named → Type 0
@@ -131,10 +133,10 @@ module _ (m : List ℕ) (s : Span) (b : Bounded s) where
   sized_told_span : Sized m (told_span m s)
   sized_told_span = sized_then m (noting m s) size_noting _ (sized_on (noting m s))
 
-  size_reseated : (ls : List Link) → KeepsSize m (reseated (min s.high 8192 - s.low) (taken_out m ls) s.low)
+  size_reseated : (ls : List Link) → KeepsSize m (reseated (min s.high CARDS - s.low) (taken_out m ls) s.low)
   size_reseated ls =
       let n = taken_out m ls in
-      size_then m n _ (size_taken_out m ls) (reseats_only n s.low (min s.high 8192 - s.low) (omega arith)).1
+      size_then m n _ (size_taken_out m ls) (reseats_only n s.low (min s.high CARDS - s.low) (omega arith)).1
 
 size_undone : (m : List ℕ) (o : Option Span) (b : BoundedPart o) (ls : List Link) → KeepsSize m (undone m ls o)
 unfolding undone
@@ -148,12 +150,12 @@ sized_part m (Some s) b = sized_told_span m s b
 sized_brought : (m : List ℕ) (o : Option Span) (b : BoundedPart o) (ls : List Link) → Sized m (brought m ls o)
 unfolding brought
 sized_brought m o b ls =
-    sized_cond m (leb (live m) 65536) _ _ (sized_part m o b) (sized_refuses m (undone m ls o) (size_undone m o b ls) Full)
+    sized_cond m (leb (live m) LINKS) _ _ (sized_part m o b) (sized_refuses m (undone m ls o) (size_undone m o b ls) Full)
 
 size_aside : (m : List ℕ) (o : Option Span) → KeepsSize m (part_aside m o)
 unfolding part_aside
 size_aside m None = size_same m
-size_aside m (Some s) = (saves_only m s.low (min s.high 8192 - s.low)).1
+size_aside m (Some s) = (saves_only m s.low (min s.high CARDS - s.low)).1
 
 module _ (m : List ℕ) (ls : List Link) (h : every (λ l. small_command (Links l)) ls ≡ true) where
   sized_trial : (s : Option Span) (t : Tried) → BoundedPart s → TriedFits m t → Sized m (by_trial t ls s)
@@ -176,7 +178,7 @@ pub sized_several : (m : List ℕ) (ls : List Link) → every (λ l. small_comma
 unfolding said_several
 sized_several m ls h =
     let no = sized_refuses m m (size_same m) in
-    sized_cond m (leb (length ls) 256) _ _
+    sized_cond m (leb (length ls) BATCH) _ _
     (sized_cond m (all_found m ls) _ _
     (sized_cond m (repeated m [] ls) _ _ (no Exists) (sized_rearranged m ls h (span m ls) (bounded_span m ls)))
     (no Missing))

@@ -5,10 +5,10 @@ use Rattle.std.proofs.lemmas.List.Sums.{sum_by-cons, sum_by-append}
 use Rattle.std.proofs.lemmas.List.Sorted.{sum_by-IsPermutation}
 use Rattle.std.proofs.lemmas.Bool.{eq-eqb}
 use Rattle.std.proofs.lemmas.Bool.Decides.{nat_tests}
-use Rattle.row.specs.declared.board.Link.{Link}
-use Rattle.row.specs.Lists.{any}
-use Rattle.row.specs.Board.{Board}
-use Rattle.row.proofs.Ways.{joins}
+use Rattle.order.specs.declared.board.Link.{Link}
+use Rattle.order.specs.Lists.{any}
+use Rattle.order.specs.Board.{Board}
+use Rattle.order.proofs.Ways.{joins}
 use Rattle.batch.specs.Several.{linked_on, said_before}
 use Rattle.batch.proofs.Shuffling.{any_count, any_shuffled, shuffled_behind}
 

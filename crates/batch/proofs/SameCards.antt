@@ -1,6 +1,6 @@
 -- Two rows of the same cards, each once, are as long.
 use Rattle.std.proofs.Common.{◌≡◌, ℕ, true, List, length, sym, ◌∙◌, arith}
-use Rattle.row.specs.Lists.{has, distinct}
+use Rattle.order.specs.Lists.{has, distinct}
 use Rattle.batch.proofs.Within.{few_within}
 
 pub as_long : (xs ys : List ℕ) → distinct xs ≡ true → distinct ys ≡ true → ((k : ℕ) → has xs k ≡ has ys k) → length xs ≡ length ys

@@ -1,10 +1,11 @@
 -- The row put aside is no part of what the memory means: links can be tried from there on.
 use Rattle.std.proofs.Common.{◌≡◌, ℕ, ◌+◌, ◌≤◌, true, false, List, length, refl, ap, ◌∙◌}
-use Rattle.row.specs.declared.board.Link.{Link}
-use Rattle.row.specs.declared.board.Command.TheVariants.{Link as Links}
-use Rattle.row.specs.Lists.{every}
-use Rattle.row.specs.Board.{Board}
+use Rattle.order.specs.declared.board.Link.{Link}
+use Rattle.command.specs.declared.command.Command.TheVariants.{Link as Links}
+use Rattle.order.specs.Lists.{every}
+use Rattle.order.specs.Board.{Board}
 use Rattle.row.specs.Layout.{tally, ids, chain, slots, places}
+use Rattle.links.specs.declared.layout.TheConstants.{ENTRIES}
 use Rattle.links.specs.Meaning.{once}
 use Rattle.search.specs.Layout.{fore, hind}
 use Rattle.search.proofs.Sounding.{alike_only}
@@ -49,6 +50,6 @@ saves_means m r n p M =
     }
 
 pub tries_saved : (m : List ℕ) (r : Board) (ls : List Link) (n p : ℕ) → Means m r → every (λ l. small_command (Links l)) ls ≡ true →
-    all_there r ls ≡ true → said_before r ls ≡ false → length r.links + length ls ≤ 67584 →
+    all_there r ls ≡ true → said_before r ls ≡ false → length r.links + length ls ≤ ENTRIES →
     (closes r ls ≡ false → AllIn (saved n m p) r ls) × (closes r ls ≡ true → Stopped (saved n m p) r ls)
 tries_saved m r ls n p M = tries (saved n m p) r ls (saves_means m r n p M)

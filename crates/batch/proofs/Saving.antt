@@ -1,10 +1,10 @@
 -- The row put aside: what stands in `spare`, and that nothing else changes.
 use Rattle.std.proofs.Common.{ℕ, List, refl}
-use Rattle.row.specs.Columns.{cell}
+use Rattle.memory.specs.Columns.{cell}
 use Rattle.row.specs.Layout.{slots}
-use Rattle.row.proofs.Cells.{cell_apart}
-use Rattle.search.specs.MarkLaws.{Only}
-use Rattle.search.proofs.Frames.{small_cell}
+use Rattle.memory.proofs.Cells.{cell_apart}
+use Rattle.search.specs.SetLaws.{Only}
+use Rattle.memory.proofs.Cells.{small_cell}
 use Rattle.keeper.proofs.OwnSize.{size_each}
 use Rattle.batch.specs.Layout.{spare}
 use Rattle.batch.specs.Seating.{saved}

@@ -3,18 +3,18 @@ use Rattle.std.proofs.Common.{◌≡◌, ℕ, ◌+◌, ◌-◌, ◌<◌, ◌≤�
 use mathlib.Core.Path.{fun_ext}
 use Rattle.std.specs.List.{range_with_len}
 use Rattle.std.proofs.lemmas.List.{take-map, drop-map}
-use Rattle.row.specs.declared.board.Link.{Link}
-use Rattle.row.specs.Lists.{has, distinct}
-use Rattle.row.specs.Board.{Board, fine}
-use Rattle.row.specs.Columns.{cell}
+use Rattle.order.specs.declared.board.Link.{Link}
+use Rattle.order.specs.Lists.{has, distinct}
+use Rattle.order.specs.Board.{Board, fine}
+use Rattle.memory.specs.Columns.{cell}
 use Rattle.row.specs.Layout.{tally, ids, chain, slots, count}
 use Rattle.row.specs.Meaning.{row_of}
-use Rattle.row.specs.Renaming.{renamed}
+use Rattle.order.specs.Renaming.{renamed}
 use Rattle.row.specs.Laws.{OnlyRow}
 use Rattle.row.proofs.Present.{length_cards}
-use Rattle.row.proofs.Climbs.{fine_parts}
-use Rattle.row.proofs.Tabulated.{made_same, made_apart, distinct_made, take_made}
-use Rattle.row.proofs.Parts.{with_part, row_in_parts}
+use Rattle.order.proofs.Climbs.{fine_parts}
+use Rattle.order.proofs.Tabulated.{made_same, made_apart, distinct_made, take_made}
+use Rattle.order.proofs.Parts.{with_part, row_in_parts}
 use Rattle.links.specs.Meaning.{edges, once}
 use Rattle.links.proofs.Sameness.{edges_alike, tabled_alike}
 use Rattle.search.specs.Meaning.{slot_board}

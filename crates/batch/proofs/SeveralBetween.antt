@@ -1,10 +1,10 @@
 -- Several links change no place before the first card that a link names, and none behind the last.
 use Rattle.std.proofs.Common.{◌≡◌, ℕ, ◌≤◌, true, List, [], ◌∷◌, ◌++◌, length, refl, ◌∙◌, inl, inr, append_assoc, append-nil, arith}
-use Rattle.row.specs.declared.board.Link.{Link}
-use Rattle.row.specs.Lists.{has, distinct}
-use Rattle.row.specs.Board.{Board, fine}
-use Rattle.row.proofs.Climbs.{fine_parts}
-use Rattle.row.proofs.Little.{place_by_front, place_by_rest}
+use Rattle.order.specs.declared.board.Link.{Link}
+use Rattle.order.specs.Lists.{has, distinct}
+use Rattle.order.specs.Board.{Board, fine}
+use Rattle.order.proofs.Climbs.{fine_parts}
+use Rattle.order.proofs.Little.{place_by_front, place_by_rest}
 use Rattle.batch.specs.Several.{all_there, Becomes, first_named, past_named, after_link}
 use Rattle.batch.specs.SeveralLaws.{SeveralBetween}
 use Rattle.batch.proofs.GoingOn.{there_parts, goes_on}

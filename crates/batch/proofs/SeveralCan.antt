@@ -1,7 +1,7 @@
 -- If no link goes round, there is a row that the links make, and with it the board is fine.
 use Rattle.std.proofs.Common.{[], ◌∷◌, refl, ◌∙◌, append_assoc, append-nil}
 use Rattle.std.proofs.lemmas.Bool.{or_parts}
-use Rattle.row.specs.Board.{leads}
+use Rattle.order.specs.Board.{leads}
 use Rattle.batch.specs.Several.{linked_on, closes, Becomes, after_link}
 use Rattle.batch.specs.SeveralLaws.{SeveralCan}
 use Rattle.batch.proofs.OneLink.{can_link}

@@ -1,11 +1,12 @@
 -- If the row keeps the links already, it stays as it is.
 use Rattle.std.proofs.Common.{◌≡◌, ℕ, true, false, List, [], ◌∷◌, ◌++◌, append_assoc, arith}
 use Rattle.std.proofs.lemmas.Bool.{le-ltb}
-use Rattle.row.specs.declared.board.Link.{Link}
-use Rattle.row.specs.declared.board.Command.TheVariants.{Link as Links}
-use Rattle.row.specs.Board.{Board, keeps}
-use Rattle.row.specs.Commands.{backward, must_be}
-use Rattle.row.proofs.Filters.{same_is}
+use Rattle.order.specs.declared.board.Link.{Link}
+use Rattle.command.specs.declared.command.Command.TheVariants.{Link as Links}
+use Rattle.order.specs.Board.{Board, keeps}
+use Rattle.order.specs.Reordering.{backward}
+use Rattle.command.specs.Commands.{must_be}
+use Rattle.order.proofs.Filters.{same_is}
 use Rattle.batch.specs.Several.{linked_on, Becomes}
 use Rattle.batch.specs.SeveralLaws.{SeveralKept}
 use Rattle.batch.proofs.OneLink.{kept_link}

@@ -1,7 +1,7 @@
 -- The links make one row only.
 use Rattle.std.proofs.Common.{◌≡◌, [], ◌∷◌, sym, ◌∙◌}
 use Rattle.std.proofs.lemmas.Bool.{or_parts}
-use Rattle.row.specs.Board.{leads}
+use Rattle.order.specs.Board.{leads}
 use Rattle.batch.specs.Several.{linked_on, closes, Becomes, after_link}
 use Rattle.batch.specs.SeveralLaws.{SeveralOne}
 use Rattle.batch.proofs.OneRow.{one_row}

@@ -4,9 +4,9 @@ use Rattle.std.specs.List.Sorted.{IsPermutation}
 use Rattle.std.proofs.lemmas.List.Sorted.{length_permutation, IsPermutation-sym}
 use Rattle.std.proofs.lemmas.Bool.{cases_Bool}
 use Rattle.std.proofs.lemmas.Bool.Decides.{nat_tests}
-use Rattle.row.specs.declared.board.Link.{Link}
-use Rattle.row.specs.Board.{Board, fine}
-use Rattle.row.proofs.Climbs.{fine_parts}
+use Rattle.order.specs.declared.board.Link.{Link}
+use Rattle.order.specs.Board.{Board, fine}
+use Rattle.order.proofs.Climbs.{fine_parts}
 use Rattle.batch.specs.Several.{all_there, closes, several_refusal}
 use Rattle.batch.specs.SeveralLaws.{SeveralAnyOrder}
 use Rattle.batch.proofs.SeveralCan.{several_can}

@@ -1,15 +1,15 @@
 -- If a link goes round, there is a circle of links, old and new, and no row keeps them all.
 use Rattle.std.proofs.Common.{◌≡◌, ℕ, true, false, List, [], ◌∷◌, Some, refl, ◌∙◌, inl, inr, append_assoc, arith}
 use Rattle.std.proofs.lemmas.Bool.{eq-eqb, cases_Bool, both_ways, and_from, or_left, or_right}
-use Rattle.row.specs.declared.board.Link.{Link}
-use Rattle.row.specs.declared.board.Command.TheVariants.{Link as Links}
-use Rattle.row.specs.declared.board.Refusal.TheVariants.{Cycle}
-use Rattle.row.specs.Lists.{any, has}
-use Rattle.row.specs.Board.{Board, linked, fine, leads}
-use Rattle.row.specs.Commands.{refusal}
-use Rattle.row.proofs.Climbs.{fine_parts, link_before}
-use Rattle.row.proofs.Leading.{leads_before}
-use Rattle.row.proofs.Circles.{round_there}
+use Rattle.order.specs.declared.board.Link.{Link}
+use Rattle.command.specs.declared.command.Command.TheVariants.{Link as Links}
+use Rattle.order.specs.declared.board.Refusal.TheVariants.{Cycle}
+use Rattle.order.specs.Lists.{any, has}
+use Rattle.order.specs.Board.{Board, linked, fine, leads}
+use Rattle.command.specs.Commands.{refusal}
+use Rattle.order.proofs.Climbs.{fine_parts, link_before}
+use Rattle.order.proofs.Leading.{leads_before}
+use Rattle.order.proofs.Circles.{round_there}
 use Rattle.links.proofs.Edging.{any_append}
 use Rattle.batch.specs.Several.{all_there, with_links, closes, circle, after_link}
 use Rattle.batch.specs.SeveralLaws.{SeveralRound}

@@ -1,11 +1,11 @@
 -- One link said so is refused and makes the row as if it were said alone.
 use Rattle.std.proofs.Common.{◌≡◌, [], ◌∷◌, refl, arith}
 use Rattle.std.proofs.lemmas.Bool.Decides.{nat_tests}
-use Rattle.row.specs.declared.board.Link.{Link}
-use Rattle.row.specs.declared.board.Command.TheVariants.{Link as Links}
-use Rattle.row.specs.Lists.{every}
-use Rattle.row.specs.Board.{Board}
-use Rattle.row.specs.Commands.{refusal}
+use Rattle.order.specs.declared.board.Link.{Link}
+use Rattle.command.specs.declared.command.Command.TheVariants.{Link as Links}
+use Rattle.order.specs.Lists.{every}
+use Rattle.order.specs.Board.{Board}
+use Rattle.command.specs.Commands.{refusal}
 use Rattle.batch.specs.Several.{said_before, closes, several_refusal, Becomes}
 use Rattle.batch.specs.SeveralLaws.{SeveralSingle}
 

@@ -4,7 +4,7 @@ use Rattle.std.specs.List.Sorted.{IsPermutation}
 use Rattle.std.proofs.lemmas.List.Sums.{sum_by-cons}
 use Rattle.std.proofs.lemmas.List.Sorted.{sum_by-IsPermutation, IsPermutation-cons}
 use Rattle.std.proofs.lemmas.Bool.Decides.{nat_tests}
-use Rattle.row.specs.Lists.{every, any}
+use Rattle.order.specs.Lists.{every, any}
 
 module _ {A : Type 0} (f : A → Bool) where
   pub any_count : (xs : List A) → any f xs ≡ ltb 0 (count_by f xs)

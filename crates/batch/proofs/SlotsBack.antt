@@ -1,17 +1,18 @@
 -- From the cards back to their slots: the board of slots is the board of cards with the slots for names, and these depend on the look-up alone.
 use Rattle.std.proofs.Common.{◌≡◌, ℕ, Bool, true, List, [], ◌∷◌, map, Option, sym, refl, ap, ◌∙◌, ap₂}
 use Rattle.std.proofs.lemmas.Bool.{and_parts}
-use Rattle.row.specs.declared.board.Link.{Link}
-use Rattle.row.specs.Lists.{every}
-use Rattle.row.specs.Board.{Board}
-use Rattle.row.specs.Columns.{cell}
+use Rattle.order.specs.declared.board.Link.{Link}
+use Rattle.order.specs.Lists.{every}
+use Rattle.order.specs.Board.{Board}
+use Rattle.memory.specs.Columns.{cell}
 use Rattle.row.specs.Layout.{ids, chain}
-use Rattle.row.specs.Lookup.{given, found}
+use Rattle.memory.specs.Options.{given}
+use Rattle.row.specs.Lookup.{found}
 use Rattle.row.specs.Meaning.{used, row_of}
-use Rattle.row.specs.Renaming.{named, renamed}
+use Rattle.order.specs.Renaming.{named, renamed}
 use Rattle.row.proofs.Present.{found_there}
 use Rattle.row.proofs.Named.{row_used}
-use Rattle.row.proofs.RenamesLinks.{Known}
+use Rattle.order.proofs.RenamesLinks.{Known}
 use Rattle.links.specs.Meaning.{edges}
 use Rattle.search.specs.Meaning.{slot_board}
 use Rattle.batch.proofs.LookUps.{found_alike}

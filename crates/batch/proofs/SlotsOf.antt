@@ -1,12 +1,12 @@
 -- The slots of cards that stand in the row: each is in use and is its card's, so cards in another order are slots in that order.
 use Rattle.std.proofs.Common.{◌≡◌, ℕ, Bool, true, false, List, [], ◌∷◌, map, sym, refl, ap, ◌∙◌, ap₂, inl, inr}
 use Rattle.std.proofs.lemmas.Bool.{cases_Bool, both_ways, and_parts, and_from}
-use Rattle.row.specs.Lists.{every, has, distinct}
-use Rattle.row.specs.Columns.{cell}
+use Rattle.order.specs.Lists.{every, has, distinct}
+use Rattle.memory.specs.Columns.{cell}
 use Rattle.row.specs.Layout.{ids}
 use Rattle.row.specs.Meaning.{row_of, cards, used, Stands}
-use Rattle.row.proofs.Filters.{every_has}
-use Rattle.row.proofs.RenamesLists.{has_map, distinct_map}
+use Rattle.order.proofs.Filters.{every_has}
+use Rattle.order.proofs.RenamesLists.{has_map, distinct_map}
 use Rattle.row.proofs.Present.{finds, apart}
 use Rattle.row.proofs.Named.{row_used, cards_named}
 use Rattle.batch.specs.Rule.{sorted}

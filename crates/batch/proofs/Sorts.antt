@@ -7,8 +7,8 @@ use Rattle.std.proofs.lemmas.Bool.{cases_Bool, cases_lt, leb-true, leb-false, eq
 use Rattle.std.proofs.ByRecursion.{All-get_or, All-from_get_or, All-weaker, all_shuffled}
 use Rattle.std.proofs.lemmas.List.Sums.{sum_by-cons}
 use Rattle.std.proofs.lemmas.List.Sorted.{IsNonDecreasingBy-short, IsPermutation-refl, IsPermutation-cons, IsPermutation-swap, IsPermutation-trans, sum_by-IsPermutation}
-use Rattle.row.specs.Lists.{every, any, has, distinct}
-use Rattle.row.proofs.Filters.{every_has}
+use Rattle.order.specs.Lists.{every, any, has, distinct}
+use Rattle.order.proofs.Filters.{every_has}
 use Rattle.batch.specs.Rule.{put_in, sorted}
 use Rattle.batch.specs.RuleLaws.{SortedSo}
 use Rattle.batch.proofs.Within.{every_in}

@@ -1,12 +1,12 @@
 -- A part of the row that a span names is told, and the memory then means the board that it meant before.
 use Rattle.std.proofs.Common.{◌≡◌, ℕ, ◌≤◌, true, List, [], length, sym, ap, ◌∙◌, subst, ap₂, arith}
-use Rattle.row.specs.Lists.{every}
-use Rattle.row.specs.Board.{Board}
-use Rattle.row.specs.Columns.{cell, written}
-use Rattle.row.specs.Commands.{Told, told_rows}
+use Rattle.order.specs.Lists.{every}
+use Rattle.order.specs.Board.{Board}
+use Rattle.memory.specs.Columns.{cell, written}
+use Rattle.command.specs.Commands.{Told, told_rows}
 use Rattle.row.specs.Layout.{tally}
 use Rattle.row.specs.Meaning.{cards}
-use Rattle.row.proofs.Cells.{cell_same, cell_other, length_written}
+use Rattle.memory.proofs.Cells.{cell_same, cell_other, length_written}
 use Rattle.row.proofs.Depending.{depends}
 use Rattle.row.proofs.Present.{length_cards}
 use Rattle.search.specs.Meaning.{Ready}

@@ -2,12 +2,13 @@
 use Rattle.std.proofs.Common.{◌≡◌, ℕ, ◌<◌, ◌≤◌, min, max, Bool, true, not, ◌&&◌, ◌||◌, ltb, leb, List, [], ◌∷◌, ◌++◌, length, sym, refl, ap, ◌∙◌, subst, inl, inr, arith, is_some, Some}
 use Rattle.std.proofs.lemmas.Bool.Decides.{nat_tests}
 use Rattle.std.proofs.lemmas.Bool.{cases_Bool, both_ways}
-use Rattle.row.specs.declared.board.Link.{Link}
-use Rattle.row.specs.Lists.{every, place}
-use Rattle.row.specs.Board.{Board, keeps}
-use Rattle.row.proofs.Climbs.{fine_parts}
-use Rattle.row.proofs.Filters.{every_append}
-use Rattle.row.proofs.Places.{place_below}
+use Rattle.order.specs.declared.board.TheConstants.{CARDS}
+use Rattle.order.specs.declared.board.Link.{Link}
+use Rattle.order.specs.Lists.{every, place}
+use Rattle.order.specs.Board.{Board, keeps}
+use Rattle.order.proofs.Climbs.{fine_parts}
+use Rattle.order.proofs.Filters.{every_append}
+use Rattle.order.proofs.Places.{place_below}
 use Rattle.row.proofs.Present.{length_cards}
 use Rattle.search.specs.Meaning.{Ready}
 use Rattle.keeper.specs.Meaning.{card_board}
@@ -40,7 +41,7 @@ module _ (m : List ℕ) (R : Ready m) where
   abbrev r : Board
   r = card_board m
 
-  few : length r.row ≤ 8192
+  few : length r.row ≤ CARDS
   few = let S = R.stands.stands in omega (arith, ap length (row_is m R), length_cards m R.stands, S.few, S.room)
 
   -- a span that is widened to the places of a link's two cards on the board

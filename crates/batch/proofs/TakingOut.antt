@@ -2,17 +2,17 @@
 use Rattle.std.proofs.Common.{◌≡◌, ℕ, Bool, true, false, not, List, [], ◌∷◌, ◌++◌, map, sym, refl, ap, ◌∙◌, subst, append-nil, arith}
 use Rattle.std.proofs.lemmas.Bool.{eq-eqb, and_parts}
 use Rattle.std.proofs.lemmas.Bool.Decides.{nat_tests}
-use Rattle.row.specs.declared.board.Link.{Link}
-use Rattle.row.specs.declared.board.Command.TheVariants.{Link as Links, Unlink as Unlinks}
-use Rattle.row.specs.Lists.{every, any, filter}
-use Rattle.row.specs.Board.{Board, ◌⟶◌, linked}
-use Rattle.row.specs.Renaming.{named}
-use Rattle.row.specs.Columns.{cell}
+use Rattle.order.specs.declared.board.Link.{Link}
+use Rattle.command.specs.declared.command.Command.TheVariants.{Link as Links, Unlink as Unlinks}
+use Rattle.order.specs.Lists.{every, any, filter}
+use Rattle.order.specs.Board.{Board, ◌⟶◌, linked}
+use Rattle.order.specs.Renaming.{named}
+use Rattle.memory.specs.Columns.{cell}
 use Rattle.row.specs.Layout.{ids}
 use Rattle.row.specs.Meaning.{used}
-use Rattle.row.proofs.Climbs.{fine_parts, link_ends}
+use Rattle.order.proofs.Climbs.{fine_parts, link_ends}
 use Rattle.row.proofs.Depending.{depends}
-use Rattle.row.proofs.RenamesLinks.{Known, joins_map}
+use Rattle.order.proofs.RenamesLinks.{Known, joins_map}
 use Rattle.links.specs.Entries.{joins}
 use Rattle.links.specs.Removing.{removed}
 use Rattle.links.specs.Meaning.{edges, once}

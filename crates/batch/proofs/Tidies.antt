@@ -2,13 +2,13 @@
 use Rattle.std.proofs.Common.{◌≡◌, ℕ, min, true, List, map, length, sym, ap, ◌∙◌, subst, ap₂, arith}
 use lib.ListN.{length-map}
 use Rattle.std.proofs.lemmas.Bool.{le-ltb}
-use Rattle.row.specs.declared.board.Link.{Link}
-use Rattle.row.specs.Lists.{distinct}
-use Rattle.row.specs.Board.{Board, fine}
-use Rattle.row.specs.Columns.{cell}
+use Rattle.order.specs.declared.board.Link.{Link}
+use Rattle.order.specs.Lists.{distinct}
+use Rattle.order.specs.Board.{Board, fine}
+use Rattle.memory.specs.Columns.{cell}
 use Rattle.row.specs.Layout.{ids, count}
 use Rattle.row.specs.Meaning.{row_of, used}
-use Rattle.row.specs.Renaming.{named}
+use Rattle.order.specs.Renaming.{named}
 use Rattle.row.proofs.Present.{apart}
 use Rattle.row.proofs.Named.{cards_named}
 use Rattle.links.specs.Meaning.{edges, once}

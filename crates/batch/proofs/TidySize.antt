@@ -2,9 +2,9 @@
 use Rattle.std.proofs.Common.{ℕ, zero, suc, ◌+◌, ◌≤◌, min, ltb, List, arith}
 use Rattle.std.proofs.lemmas.Bool.{cond_both}
 use Rattle.row.specs.Layout.{count}
-use Rattle.row.proofs.Walking.{given_holds}
+use Rattle.memory.proofs.Options.{given_holds}
 use Rattle.search.specs.Layout.{fore}
-use Rattle.search.specs.Marks.{first_mark}
+use Rattle.memory.specs.PlaceSets.{first_mark}
 use Rattle.keeper.specs.Sized.{KeepsSize}
 use Rattle.keeper.proofs.Size.{size_then}
 use Rattle.batch.specs.Seating.{reseated}

@@ -2,15 +2,15 @@
 use Rattle.std.proofs.Common.{◌≡◌, ℕ, Bool, true, ◌&&◌, List, map, length, sym, refl, ap, ◌∙◌, subst, inl, inr, arith}
 use Rattle.std.proofs.lemmas.Bool.{cases_lt, and_parts, and_from}
 use Rattle.std.proofs.lemmas.List.FromFn.{length-map-range_with_len}
-use Rattle.row.specs.declared.board.Link.{Link}
-use Rattle.row.specs.Lists.{every, has, distinct}
-use Rattle.row.specs.Board.{keeps, fine}
-use Rattle.row.specs.Columns.{cell}
+use Rattle.order.specs.declared.board.Link.{Link}
+use Rattle.order.specs.Lists.{every, has, distinct}
+use Rattle.order.specs.Board.{keeps, fine}
+use Rattle.memory.specs.Columns.{cell}
 use Rattle.row.specs.Layout.{tally, ids, slots, count}
 use Rattle.row.specs.Meaning.{row_of, cards, used, Stands}
-use Rattle.row.proofs.Filters.{every_more}
-use Rattle.row.proofs.Climbs.{fine_parts, fine_from}
-use Rattle.row.proofs.RenamesLists.{distinct_map}
+use Rattle.order.proofs.Filters.{every_more}
+use Rattle.order.proofs.Climbs.{fine_parts, fine_from}
+use Rattle.order.proofs.RenamesLists.{distinct_map}
 use Rattle.row.proofs.Present.{apart}
 use Rattle.row.proofs.Named.{has_slot, row_used, cards_named}
 use Rattle.links.specs.Meaning.{edges}

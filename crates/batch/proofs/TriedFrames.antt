@@ -1,11 +1,11 @@
 -- What links that are tried, and taken out again, leave as it was, whatever the memory.
 use Rattle.std.proofs.Common.{◌≡◌, ℕ, ◌+◌, true, eqb, ltb, List, [], ◌∷◌, Some, Option, arith}
 use Rattle.std.proofs.lemmas.Bool.{lt-ltb, cond_both}
-use Rattle.row.specs.declared.board.Link.{Link}
-use Rattle.row.specs.declared.column.Column.{Column}
-use Rattle.row.specs.Columns.{cell, apart}
+use Rattle.order.specs.declared.board.Link.{Link}
+use Rattle.memory.specs.declared.column.Column.{Column}
+use Rattle.memory.specs.Columns.{cell, apart}
 use Rattle.row.specs.Layout.{slots, places}
-use Rattle.row.proofs.Walking.{given_holds}
+use Rattle.memory.proofs.Options.{given_holds}
 use Rattle.links.specs.Building.{inserted}
 use Rattle.links.specs.Removing.{removed}
 use Rattle.links.specs.Frames.{aside}

@@ -1,11 +1,12 @@
 -- Links that are tried one after the other: all are in, with the row that they make, or one goes round, and those before it are in.
 use Rattle.std.proofs.Common.{◌≡◌, ℕ, suc, ◌+◌, ◌≤◌, true, false, ◌&&◌, ◌||◌, eqb, List, [], ◌∷◌, ◌++◌, length, take, Some, None, sym, refl, ap, ◌∙◌, subst, inl, inr, append_assoc, append-nil, arith, length-append}
 use Rattle.std.proofs.lemmas.Bool.{cases_Bool, both_ways, and_parts, eq-eqb}
-use Rattle.row.specs.declared.board.Link.{Link}
-use Rattle.row.specs.declared.board.Command.TheVariants.{Link as Links}
-use Rattle.row.specs.Lists.{every, any}
-use Rattle.row.specs.Board.{Board, ◌⟶◌, linked, leads, fine}
-use Rattle.row.specs.Commands.{with_link, goes_round}
+use Rattle.order.specs.declared.board.Link.{Link}
+use Rattle.command.specs.declared.command.Command.TheVariants.{Link as Links}
+use Rattle.order.specs.Lists.{every, any}
+use Rattle.order.specs.Board.{Board, ◌⟶◌, linked, leads, fine}
+use Rattle.order.specs.Reordering.{with_link, goes_round}
+use Rattle.links.specs.declared.layout.TheConstants.{ENTRIES}
 use Rattle.links.proofs.Edging.{any_append}
 use Rattle.keeper.specs.Promise.{small_command}
 use Rattle.keeper.specs.Meaning.{Means}
@@ -118,7 +119,7 @@ module _ (m : List ℕ) (r : Board) (l : Link) (ls : List Link) (i : ℕ) where
     }
 
 so_far : (m : List ℕ) (r : Board) (ls : List Link) (i : ℕ) → Means m r → every (λ l. small_command (Links l)) ls ≡ true → all_there r ls ≡ true →
-    said_before r ls ≡ false → length r.links + length ls ≤ 67584 → SoFar m r ls i
+    said_before r ls ≡ false → length r.links + length ls ≤ ENTRIES → SoFar m r ls i
 so_far m r [] i M sm t b h = none_left m r i M
 so_far m r (l ∷ ls) i M sm t b h =
     let p = there_parts r l ls t in

@@ -1,7 +1,7 @@
 -- The loops that try links and take them out, step by step.
 use Rattle.std.proofs.Common.{◌≡◌, ◌⊎◌, ℕ, ◌+◌, ◌<◌, ◌≤◌, List, length, get_or, drop, Some, None, Option, refl, inl, inr, ◌∙◌}
 use Rattle.std.proofs.lemmas.List.{at_drop_more, at_drop_all}
-use Rattle.row.specs.declared.board.Link.{Link}
+use Rattle.order.specs.declared.board.Link.{Link}
 use Rattle.batch.specs.Joining.{joined, tried}
 
 pub a_way : (o : Option (List ℕ)) → (o ≡ None) ⊎ ((ks : List ℕ) × (o ≡ Some ks))

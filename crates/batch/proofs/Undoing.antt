@@ -1,10 +1,12 @@
 -- Links that were tried are taken out again, and the row is seated as it was: the memory means the board that it meant before.
 use Rattle.std.proofs.Common.{None, ◌≡◌, ℕ, zero, suc, ◌+◌, ◌-◌, ◌≤◌, min, Bool, true, List, [], ◌∷◌, ◌++◌, length, take, refl, ◌∙◌, arith, Some}
 use Rattle.std.proofs.lemmas.Bool.{and_parts, and_from}
-use Rattle.row.specs.declared.board.Link.{Link}
-use Rattle.row.specs.declared.board.Command.TheVariants.{Link as Links}
-use Rattle.row.specs.Lists.{every}
-use Rattle.row.specs.Board.{Board}
+use Rattle.memory.specs.declared.column.TheConstants.{MEMORY}
+use Rattle.order.specs.declared.board.TheConstants.{CARDS}
+use Rattle.order.specs.declared.board.Link.{Link}
+use Rattle.command.specs.declared.command.Command.TheVariants.{Link as Links}
+use Rattle.order.specs.Lists.{every}
+use Rattle.order.specs.Board.{Board}
 use Rattle.row.specs.Layout.{ids, chain}
 use Rattle.keeper.specs.Promise.{small_command}
 use Rattle.keeper.specs.Meaning.{Means}
@@ -33,12 +35,12 @@ first_within r (l ∷ ls) = omega (arith, first_within r ls)
 
 -- the links that were put in are ks
 module _ (m : List ℕ) (r : Board) (ls ks : List Link) (s : Span) (row : List ℕ) (M : Means m r) (sm : every (λ l. small_command (Links l)) ks ≡ true)
-    (t : all_there r ks ≡ true) (long : length m ≡ 524288) (C : Covers s r ks) (b : Becomes r ks row) where
+    (t : all_there r ks ≡ true) (long : length m ≡ MEMORY) (C : Covers s r ks) (b : Becomes r ks row) where
   abbrev lo : ℕ
   lo = s.low
 
   abbrev size : ℕ
-  size = min s.high 8192 - lo
+  size = min s.high CARDS - lo
 
   abbrev m₁ : List ℕ
   m₁ = put_aside m s
@@ -49,7 +51,7 @@ module _ (m : List ℕ) (r : Board) (ls ks : List Link) (s : Span) (row : List �
   abbrev m₃ : List ℕ
   m₃ = taken_out m₂ ks
 
-  room : length r.row ≤ 8192
+  room : length r.row ≤ CARDS
   room = let S = M.ready.stands.stands in omega (arith, row_count m r M, S.few, S.room)
 
   few : lo + size ≤ length r.row
@@ -102,7 +104,7 @@ undoes m r ls n s row M sm t long C b =
 
 -- links that were all put in, and links of which one goes round
 module _ (m : List ℕ) (r : Board) (ls : List Link) (s : Span) (M : Means m r) (sm : every (λ l. small_command (Links l)) ls ≡ true)
-    (t : all_there r ls ≡ true) (long : length m ≡ 524288) (C : Covers s r ls) where
+    (t : all_there r ls ≡ true) (long : length m ≡ MEMORY) (C : Covers s r ls) where
   pub undoes_all : AllIn (put_aside m s) r ls → Means (undone (tried (put_aside m s) ls 0).memory ls (Some s)) r
   undoes_all A = undone_so m r ls ls s A.row M sm t long C A.becomes A.means
 
@@ -115,4 +117,4 @@ unfolding undone reseated at_each
 undoes_none m r ls None sm e M = takes_out m r ls sm M
 undoes_none m r ls (Some s) sm e M =
     let h : s.high ≤ s.low = e s refl in
-    let z : min s.high 8192 - s.low ≡ 0 = omega arith in rw z (takes_out m r ls sm M)
+    let z : min s.high CARDS - s.low ≡ 0 = omega arith in rw z (takes_out m r ls sm M)

@@ -4,11 +4,11 @@ use Rattle.std.specs.List.{range_with_len}
 use Rattle.std.proofs.lemmas.List.{append-nil, drop_all}
 use Rattle.std.proofs.lemmas.Simd.{map-map}
 use Rattle.std.proofs.lemmas.List.FromFn.{length-map-range_with_len}
-use Rattle.row.specs.Lists.{has, distinct}
-use Rattle.row.specs.Columns.{cell}
+use Rattle.order.specs.Lists.{has, distinct}
+use Rattle.memory.specs.Columns.{cell}
 use Rattle.row.specs.Layout.{ids, slots, count}
 use Rattle.row.specs.Meaning.{row_of, cards, used, Stands}
-use Rattle.row.proofs.Tabulated.{made_same}
+use Rattle.order.proofs.Tabulated.{made_same}
 use Rattle.batch.specs.Layout.{spare}
 use Rattle.batch.specs.Seating.{reseated}
 use Rattle.batch.specs.SeatLaws.{OnlySeats, Seated}

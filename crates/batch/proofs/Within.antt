@@ -2,9 +2,9 @@
 use Rattle.std.proofs.Common.{◌≡◌, ℕ, suc, ◌<◌, ◌≤◌, Bool, true, false, not, eqb, List, [], ◌∷◌, length, refl, inl, inr, arith}
 use Rattle.std.proofs.lemmas.Bool.Decides.{nat_tests}
 use Rattle.std.proofs.lemmas.Bool.{cases_Bool, cases_eq, both_ways, and_from}
-use Rattle.row.specs.Lists.{every, any, filter, has, distinct}
-use Rattle.row.proofs.Filters.{has_filter}
-use Rattle.row.proofs.Chaining.{has_head, has_tail, has_on, has_at, without_none, not_again, distinct_tail}
+use Rattle.order.specs.Lists.{every, any, filter, has, distinct}
+use Rattle.order.proofs.Filters.{has_filter}
+use Rattle.order.proofs.Members.{has_head, has_tail, has_on, has_at, without_none, not_again, distinct_tail}
 use Rattle.batch.specs.Rule.{without}
 
 -- different numbers with one more in front

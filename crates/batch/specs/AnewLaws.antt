@@ -8,11 +8,11 @@
 --   MakesAnew                 with memory and output that fit, it ends so, whatever stood in the memory
 --   MakesUnfit                if they don't fit, it is refused, and nothing changes
 use Rattle.std.specs.Prelude.{◌≡◌, ℕ, ◌≤◌, true, false, cond, ◌&&◌, List, [], ◌∷◌, ◌++◌, length, drop, Some, None, Ok, Err, Option, ◌≢◌, nat_le}
-use Rattle.row.specs.declared.board.Link.{Link}
-use Rattle.row.specs.declared.board.Refusal.{Refusal}
-use Rattle.row.specs.declared.board.Refusal.TheVariants.{Missing, Exists, Full}
-use Rattle.row.specs.Lists.{every, has}
-use Rattle.row.specs.Lookup.{given}
+use Rattle.order.specs.declared.board.Link.{Link}
+use Rattle.order.specs.declared.board.Refusal.{Refusal}
+use Rattle.order.specs.declared.board.Refusal.TheVariants.{Missing, Exists, Full}
+use Rattle.order.specs.Lists.{every, has}
+use Rattle.memory.specs.Options.{given}
 use Rattle.keeper.specs.declared.event.Reason.TheVariants.{Unfit, Board}
 use Rattle.keeper.specs.Own.{step_fits}
 use Rattle.batch.specs.declared.making_anew.Anew.TheVariants.{Row, Circle}

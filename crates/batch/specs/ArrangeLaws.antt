@@ -7,8 +7,8 @@
 --   Arranges             the cards come to stand in the order of their numbers
 --   ArrangesOnly         nothing else changes, whatever the memory
 use Rattle.std.specs.Prelude.{◌≡◌, ℕ, ◌+◌, ◌^◌, ◌<◌, ◌≤◌, true, List, length, slice_index}
-use Rattle.row.specs.declared.column.Column.{Column}
-use Rattle.row.specs.Columns.{cell, apart}
+use Rattle.memory.specs.declared.column.Column.{Column}
+use Rattle.memory.specs.Columns.{cell, apart}
 use Rattle.row.specs.Layout.{slots, places}
 use Rattle.row.specs.Meaning.{cards, used, Stands}
 use Rattle.keeper.specs.Sized.{KeepsSize}

@@ -9,10 +9,11 @@
 --   arranged_by n m    the row of n cards put into the order of their numbers
 --   arranged m         the row put into the order of the cards' numbers
 use Rattle.std.specs.Prelude.{ℕ, ◌+◌, min, List}
-use Rattle.row.specs.declared.column.Column.{Column}
-use Rattle.row.specs.Columns.{cell, written}
+use Rattle.memory.specs.declared.column.Column.{Column}
+use Rattle.memory.specs.Columns.{cell, written}
 use Rattle.row.specs.Layout.{ids, slots, count}
-use Rattle.row.specs.Lookup.{given, found}
+use Rattle.memory.specs.Options.{given}
+use Rattle.row.specs.Lookup.{found}
 use Rattle.batch.specs.Layout.{spare, numbers}
 use Rattle.batch.specs.Seating.{reseated}
 use Rattle.batch.specs.Sorting.{sorted_part}

@@ -14,7 +14,7 @@
 --   round m n         the slots of that circle, each linked to the next; at most n of them
 --   RoundSo m out     the circle that is noted in m is shown at the front of the output, as far as there is room, and its length told; the memory is m
 use Rattle.std.specs.Prelude.{◌≡◌, ℕ, zero, suc, ◌+◌, min, Bool, cond, ◌&&◌, List, length, reverse, ◌==◌, nat_lt}
-use Rattle.row.specs.Columns.{cell, written}
+use Rattle.memory.specs.Columns.{cell, written}
 use Rattle.row.specs.Layout.{slots, count}
 use Rattle.links.specs.Layout.{end, froms, tos}
 use Rattle.links.specs.Building.{blanked}

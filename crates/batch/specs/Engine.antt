@@ -6,9 +6,9 @@
 --   runs n            what is heard and what comes of it, in at most n steps
 --   run_of n e m s    how the saying s goes on the engine e from the memory m on, in at most n steps
 use Rattle.std.specs.Prelude.{ℕ, zero, suc, List, []}
-use Rattle.row.specs.declared.board.Link.{Link}
-use Rattle.row.specs.declared.board.Command.{Command}
-use Rattle.row.specs.Commands.{Told}
+use Rattle.order.specs.declared.board.Link.{Link}
+use Rattle.command.specs.declared.command.Command.{Command}
+use Rattle.command.specs.Commands.{Told}
 use Rattle.keeper.specs.Engine.{Step, Ran, ran, one_act}
 use Rattle.batch.specs.declared.event.Event.{Event}
 use Rattle.batch.specs.declared.event.Event.TheVariants.{Said, Several, Anew, Next}

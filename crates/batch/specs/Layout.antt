@@ -4,7 +4,7 @@
 --   awaits   by slot: how many links come into it from cards that haven't come yet
 --   leaves   by slot: how many links go out of it
 --   numbers  the numbers of the cards, in their order
-use Rattle.row.specs.declared.column.Column.{Column}
+use Rattle.memory.specs.declared.column.Column.{Column}
 
 abbrev pub spare : Column
 spare = record { base = 478568; size = 8192 }

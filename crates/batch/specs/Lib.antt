@@ -4,6 +4,7 @@ pub mod Rule
 pub mod RuleLaws
 pub mod Layout
 pub mod Listing
+pub mod Dense
 pub mod Joining
 pub mod JoinLaws
 pub mod CheckLaws

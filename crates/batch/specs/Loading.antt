@@ -9,10 +9,10 @@
 --   links_come m ls    the links put in; refused if a card isn't there, or if there are too many
 --   loaded m ks ls     both
 use Rattle.std.specs.Prelude.{◌≡◌, ℕ, cond, List, [], ◌∷◌, length, Some, None, Ok, Err, Option, Result, nat_le}
-use Rattle.row.specs.declared.board.Link.{Link}
-use Rattle.row.specs.declared.board.Refusal.{Refusal}
-use Rattle.row.specs.declared.board.Refusal.TheVariants.{Missing, Full}
-use Rattle.row.specs.Lookup.{given}
+use Rattle.order.specs.declared.board.Link.{Link}
+use Rattle.order.specs.declared.board.Refusal.{Refusal}
+use Rattle.order.specs.declared.board.Refusal.TheVariants.{Missing, Full}
+use Rattle.memory.specs.Options.{given}
 use Rattle.row.specs.Moves.{came}
 use Rattle.links.specs.Building.{inserted}
 use Rattle.keeper.specs.Linking.{slots_found}

@@ -10,10 +10,10 @@
 --   made_anew m ks ls out   so for the cards ks and the links ls; where the memory or the output doesn't fit, refused, and nothing is changed
 use Rattle.std.specs.Prelude.{◌≡◌, ℕ, cond, List, map, length, replicate, Ok, Err, Result, nat_lt}
 use Rattle.std.specs.List.{range_with_len}
-use Rattle.row.specs.declared.board.Link.{Link}
-use Rattle.row.specs.Columns.{cell}
+use Rattle.order.specs.declared.board.Link.{Link}
+use Rattle.memory.specs.Columns.{cell}
 use Rattle.row.specs.Layout.{count}
-use Rattle.row.specs.Lookup.{given}
+use Rattle.memory.specs.Options.{given}
 use Rattle.search.specs.Way.{over}
 use Rattle.keeper.specs.declared.event.Reason.{Reason}
 use Rattle.keeper.specs.declared.event.Reason.TheVariants.{Unfit, Board}

@@ -7,15 +7,15 @@
 --   RenewsOnly          nothing else changes, whatever the memory
 use Rattle.std.specs.Prelude.{◌≡◌, ℕ, ◌+◌, ◌^◌, ◌<◌, ◌≤◌, true, false, List, map, length, ◌≢◌, slice_index}
 use Rattle.std.specs.List.{range_with_len}
-use Rattle.row.specs.declared.column.Column.{Column}
-use Rattle.row.specs.Columns.{cell, apart}
+use Rattle.memory.specs.declared.column.Column.{Column}
+use Rattle.memory.specs.Columns.{cell, apart}
 use Rattle.row.specs.Layout.{tally}
 use Rattle.row.specs.Meaning.{row_of, cards, used, Stands}
 use Rattle.links.specs.Meaning.{edges, Tabled}
 use Rattle.links.specs.Frames.{aside}
 use Rattle.search.specs.Layout.{fore}
-use Rattle.search.specs.Marks.{marked}
-use Rattle.search.specs.MarkLaws.{Summed}
+use Rattle.memory.specs.PlaceSets.{marked}
+use Rattle.memory.specs.PlaceSetLaws.{Summed}
 use Rattle.keeper.specs.Sized.{KeepsSize}
 use Rattle.batch.specs.Layout.{spare, awaits, leaves}
 use Rattle.batch.specs.Renewing.{renewed}

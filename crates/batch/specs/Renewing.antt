@@ -19,10 +19,10 @@
 --   renewing f m i      at most f more come, after i others
 --   renewed m           the row made anew
 use Rattle.std.specs.Prelude.{ℕ, zero, suc, ◌+◌, ◌-◌, min, cond, List, Some, None, Option, ◌==◌}
-use Rattle.row.specs.declared.column.Column.{Column}
-use Rattle.row.specs.Columns.{cell, written}
+use Rattle.memory.specs.declared.column.Column.{Column}
+use Rattle.memory.specs.Columns.{cell, written}
 use Rattle.row.specs.Layout.{slots, places, count}
-use Rattle.row.specs.Lookup.{given}
+use Rattle.memory.specs.Options.{given}
 use Rattle.links.specs.declared.chain.Chain.TheVariants.{Out}
 use Rattle.links.specs.declared.chain.Meeting.{Meeting}
 use Rattle.links.specs.declared.chain.Meeting.TheVariants.{End, Dead, Living}
@@ -30,7 +30,7 @@ use Rattle.links.specs.Layout.{live, froms, tos}
 use Rattle.links.specs.Chains.{met, stepped}
 use Rattle.links.specs.Building.{blanked, rebuilt}
 use Rattle.search.specs.Layout.{fore}
-use Rattle.search.specs.Marks.{added, removed, first_mark}
+use Rattle.memory.specs.PlaceSets.{added, removed, first_mark}
 use Rattle.batch.specs.Layout.{spare, awaits, leaves}
 use Rattle.batch.specs.Listing.{at_each}
 

@@ -9,9 +9,9 @@
 --                          in `left` do
 --   sorted ks              ks in the order of the numbers
 use Rattle.std.specs.Prelude.{◌≡◌, ℕ, zero, suc, ◌<◌, Bool, true, false, cond, not, ◌&&◌, List, [], ◌∷◌, length, Some, None, Option, ◌==◌, nat_le}
-use Rattle.row.specs.declared.board.Link.{Link}
-use Rattle.row.specs.Lists.{any, filter, has, place}
-use Rattle.row.specs.Lookup.{given}
+use Rattle.order.specs.declared.board.Link.{Link}
+use Rattle.order.specs.Lists.{any, filter, has, place}
+use Rattle.memory.specs.Options.{given}
 
 abbrev pub waits : List Link → List ℕ → ℕ → Bool
 waits ls left k = any (λ l. (l.to == k) && has left l.from) ls

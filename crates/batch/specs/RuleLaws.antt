@@ -9,9 +9,9 @@
 --   SortedSo         what is sorted has the same cards, as often, and rises; and a list of the same cards that rises is it
 use Rattle.std.specs.Prelude.{◌≡◌, ℕ, ◌<◌, ◌≤◌, true, ◌&&◌, List, length}
 use Rattle.std.specs.List.Sorted.{IsPermutation, IsNonDecreasing}
-use Rattle.row.specs.declared.board.Link.{Link}
-use Rattle.row.specs.Lists.{every, has, distinct}
-use Rattle.row.specs.Board.{keeps}
+use Rattle.order.specs.declared.board.Link.{Link}
+use Rattle.order.specs.Lists.{every, has, distinct}
+use Rattle.order.specs.Board.{keeps}
 use Rattle.batch.specs.Several.{circle}
 use Rattle.batch.specs.Rule.{anew, Ruled, sorted}
 

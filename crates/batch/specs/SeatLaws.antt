@@ -9,12 +9,12 @@
 --   ReseatsOnly           nothing else changes, whatever the memory
 use Rattle.std.specs.Prelude.{◌≡◌, ℕ, ◌+◌, ◌^◌, ◌<◌, ◌≤◌, true, ◌⊎◌, List, ◌++◌, map, length, take, drop, slice_index}
 use Rattle.std.specs.List.{range_with_len}
-use Rattle.row.specs.declared.column.Column.{Column}
-use Rattle.row.specs.Lists.{has, distinct}
-use Rattle.row.specs.Columns.{cell, apart}
+use Rattle.memory.specs.declared.column.Column.{Column}
+use Rattle.order.specs.Lists.{has, distinct}
+use Rattle.memory.specs.Columns.{cell, apart}
 use Rattle.row.specs.Layout.{slots, places, count}
 use Rattle.row.specs.Meaning.{row_of, used, Stands}
-use Rattle.search.specs.MarkLaws.{Only}
+use Rattle.search.specs.SetLaws.{Only}
 use Rattle.keeper.specs.Sized.{KeepsSize}
 use Rattle.batch.specs.Layout.{spare}
 use Rattle.batch.specs.Seating.{saved, reseated}

@@ -3,7 +3,7 @@
 --   saved f m p      the slots at f places from p on put aside
 --   reseated f m p   f places from p on given to the slots that were put aside for them
 use Rattle.std.specs.Prelude.{ℕ, List}
-use Rattle.row.specs.Columns.{cell, written}
+use Rattle.memory.specs.Columns.{cell, written}
 use Rattle.row.specs.Layout.{slots}
 use Rattle.row.specs.Moves.{seated_in}
 use Rattle.batch.specs.Layout.{spare}

@@ -9,11 +9,12 @@
 --   SeveralAnyOrder    the order of the links doesn't matter for whether they are refused, nor for the reason
 use Rattle.std.specs.Prelude.{◌≡◌, ℕ, ◌<◌, ◌≤◌, true, false, ◌⊎◌, List, [], ◌∷◌, ◌++◌, length, take, drop, ◌≢◌}
 use Rattle.std.specs.List.Sorted.{IsPermutation}
-use Rattle.row.specs.declared.board.Link.{Link}
-use Rattle.row.specs.declared.board.Command.TheVariants.{Link as Links}
-use Rattle.row.specs.Lists.{has, place}
-use Rattle.row.specs.Board.{Board, keeps, fine}
-use Rattle.row.specs.Commands.{refusal, with_link, must_be}
+use Rattle.order.specs.declared.board.Link.{Link}
+use Rattle.command.specs.declared.command.Command.TheVariants.{Link as Links}
+use Rattle.order.specs.Lists.{has, place}
+use Rattle.order.specs.Board.{Board, keeps, fine}
+use Rattle.command.specs.Commands.{refusal, must_be}
+use Rattle.order.specs.Reordering.{with_link}
 use Rattle.batch.specs.Several.{all_there, with_links, closes, several_refusal, Becomes, first_named, past_named, circle}
 
 abbrev pub SeveralCan : Type 0

@@ -7,7 +7,7 @@
 --   Tidies              of a memory that means a board all cards come, and it means the board with its row tidied
 --   TidiesOnly          the memory keeps its size, whatever stands in it
 use Rattle.std.specs.Prelude.{◌≡◌, ℕ, true, List, length}
-use Rattle.row.specs.Board.{Board, fine}
+use Rattle.order.specs.Board.{Board, fine}
 use Rattle.keeper.specs.Sized.{KeepsSize}
 use Rattle.keeper.specs.Meaning.{Means}
 use Rattle.batch.specs.Rule.{Ruled, sorted}

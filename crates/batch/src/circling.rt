@@ -4,14 +4,15 @@
 // a circle, and from there on round it. Two columns serve anew: LEAVES has a 1 for each slot that has come, and NUMBERS has for a slot one that hasn't
 // come and is linked to it. LEAVES is a set of slots then: the column is there already, and its counts aren't needed any more.
 ghost use Rattle.std.specs.Prelude.{◌≡◌};
-ghost use Rattle.row.specs.Columns.{cell};
+ghost use Rattle.memory.specs.Columns.{cell};
 ghost use Rattle.batch.specs.Layout.{numbers};
 ghost use Rattle.batch.specs.Circling.{flagged, stays, noted, notes, traced, start, back, RoundSo};
 
 use crate::layout::{LEAVES, NUMBERS, SPARE};
 use crate::seating::row_len;
 use links::{ENTRIES, from_of, to_of, used};
-use row::{CARDS, SLOTS};
+use order::CARDS;
+use row::SLOTS;
 use search::show_trail;
 
 // Notes of the first n slots in SPARE that they have come.

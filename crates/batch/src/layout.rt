@@ -1,6 +1,6 @@
 // Where the columns of this crate lie in the lent memory, behind those of `search`. There is no heap, and what is lent may hold anything: so columns of numbers
 // stand here, by place or by slot, and no lists or maps.
-use row::Column;
+use memory::Column;
 
 // How many links may be said at once.
 pub(crate) const BATCH: usize = 256;

@@ -3,7 +3,7 @@ ghost use Rattle.std.specs.Prelude.{◌≡◌, ◌-◌};
 ghost use Rattle.batch.specs.Arranging.{filled};
 ghost use Rattle.batch.specs.Listing.{Says};
 
-use row::Column;
+use memory::Column;
 use std::ops::Range;
 
 // Writes what `value` says of the memory and a place to the column at that place, for each of the places.

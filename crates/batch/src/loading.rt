@@ -5,7 +5,8 @@ ghost use Rattle.batch.specs.Loading.{LoadedSo, cards_come, put_one, put_all, li
 use crate::checking::all_there;
 use keeper::{LINKS, slots_of};
 use links::insert;
-use row::{Link, Refusal, comes};
+use order::{Link, Refusal};
+use row::comes;
 
 // The cards come, one after the other, up to the first that is refused.
 #[tactic(auto, using(crate::proofs::LoadSteps::cards))]

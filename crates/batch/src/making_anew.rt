@@ -10,7 +10,8 @@ use crate::layout::SPARE;
 use crate::loading::load;
 use crate::renewing::renew;
 use keeper::{MEMORY, OUTPUT, Reason};
-use row::{IDS, Link};
+use order::Link;
+use row::IDS;
 
 // How a row is made anew: so many cards at the front of the output, which is lent, are the new row; or they are a circle, each linked to the next and
 // the last to the first. A circle is an answer and no failure, and the names say what the numbers are.

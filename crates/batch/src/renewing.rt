@@ -11,7 +11,9 @@ ghost use Rattle.batch.specs.Renewing.{lessened, next_by, left_by, released, let
 use crate::layout::{LEAVES, SPARE, WAITS};
 use crate::seating::row_len;
 use links::{Chain, ENTRIES, Meeting, from_of, rebuild, take_step, to_of};
-use row::{CARDS, Column, PLACES, SLOTS};
+use memory::Column;
+use order::CARDS;
+use row::{PLACES, SLOTS};
 use search::FORE;
 
 // Nothing is counted.

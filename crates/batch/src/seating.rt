@@ -5,7 +5,8 @@ ghost use Rattle.batch.specs.Seating.{saved, reseated};
 
 use crate::layout::SPARE;
 use crate::listing::fill;
-use row::{CARDS, SLOTS, seat};
+use order::CARDS;
+use row::{SLOTS, seat};
 
 // How many cards the row has; no more than there may be, whatever stands in the memory.
 pub(crate) fn row_len(memory: &[u64]) -> u64

@@ -1,7 +1,7 @@
 use Rattle.std.proofs.Common.{ℕ, refl, ◌∙◌, rules, tests}
 use Rattle.std.proofs.lemmas.Iterator.{YieldsList-from_range}
 use Rattle.std.proofs.lemmas.Iterator.Consumers.{fold_from_yields_List}
-use Rattle.row.specs.Columns.{cell}
+use Rattle.memory.specs.Columns.{cell}
 use Rattle.batch.specs.Layout.{numbers}
 use Rattle.batch.proofs.CircleSteps.{folds_back}
 use Rattle.batch.proofs.circling.go_back.Goals as goal

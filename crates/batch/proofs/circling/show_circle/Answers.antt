@@ -1,5 +1,5 @@
 use Rattle.std.proofs.Common.{◌≡◌, List, ℕ, ap, ◌∙◌, ◌++◌, drop, subst, rules}
-use Rattle.row.specs.Columns.{cell}
+use Rattle.memory.specs.Columns.{cell}
 use Rattle.batch.specs.Layout.{numbers}
 use Rattle.batch.specs.Circling.{back, on_circle, RoundSo}
 use Rattle.batch.proofs.CircleSteps.{round_so}

@@ -1,6 +1,6 @@
 use Rattle.std.proofs.Common.{ℕ, ◌+◌, ◌-◌, List, sym, ap, ◌∙◌, ap₂, arith}
 use Rattle.std.specs.declared.ops.Range.{Range}
-use Rattle.row.specs.Columns.{written}
+use Rattle.memory.specs.Columns.{written}
 use Rattle.batch.specs.Arranging.{filled}
 use Rattle.batch.proofs.PlaceByPlace.{each_go, each_end}
 use Rattle.batch.proofs.listing.fill.Goals as goal

@@ -1,8 +1,8 @@
 use Rattle.std.proofs.Common.{◌≡◌, ℕ, length, get_or, set, sym, ap, ◌∙◌, arith}
 use Rattle.std.proofs.lemmas.List.FromFn.{length-map-range_with_len, get_or-map-range_with_len}
-use Rattle.row.specs.Columns.{cell}
+use Rattle.memory.specs.Columns.{cell}
 use Rattle.row.specs.Layout.{ids}
-use Rattle.row.proofs.Fronts.{front_more, front_all}
+use Rattle.order.proofs.Fronts.{front_more, front_all}
 use Rattle.search.specs.Way.{over}
 use Rattle.batch.specs.Layout.{spare}
 use Rattle.batch.specs.MakingAnew.{new_row}

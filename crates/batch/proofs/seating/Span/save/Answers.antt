@@ -1,5 +1,5 @@
 use Rattle.std.proofs.Common.{ℕ, ◌-◌, List, ap, ◌∙◌, rules}
-use Rattle.row.specs.Columns.{cell}
+use Rattle.memory.specs.Columns.{cell}
 use Rattle.row.specs.Layout.{slots}
 use Rattle.batch.specs.Arranging.{filled}
 use Rattle.batch.specs.Seating.{saved}
