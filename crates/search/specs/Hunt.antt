@@ -1,20 +1,20 @@
 -- The search from both ends in turn, as the code goes.
 --
---   inside w q         the place q lies in the part w
---   sees m d w t       the slot t lies in the part, and the other search has come to it
---   entered m d w s t  the memory after the search d came from the slot s to the slot t: t's place is marked if it lies in the part; if it wasn't before,
---                      s is noted as the slot that t was come to from
---   Taken              what a turn of a walk tells, and the memory after it: it breaks off at the end of the chain, or with the slot at which the other
---                      search was met; else it goes on at a pointer
+--   inside w q         the seat q lies in the part w
+--   sees m d w t       the slot t sits in the part, and the other search has come to it
+--   entered m d w s t  the memory after the search d came from the slot s to the slot t: t's seat is marked if it lies in the part and the other search
+--                      hasn't come to it; if it wasn't marked before, s is noted as the slot that t was come to from
+--   Turn               what a turn of a walk tells, and the memory after it: it breaks off at the end of the chain, or with the slot at which the other
+--                      search was met; else it goes on at a place
 --   turned, left_by    the two, by what the walk's step meets
---   taken m d w s p    a turn of the walk through the chain of the slot s, which stands at the pointer p
+--   turn m d w s p     a turn of the walk through the chain of the slot s, which stands at the place p
 --   Spreading          what going through a chain tells, and the memory after it: it breaks off with the slot at which the other search was met; else
 --                      it tells what is left of the fuel
 --   spread_on x f m k  what is told after the turn x, with k for the rest of the walk
---   spreading f m d w s p   the walk, from the pointer p on, in at most f turns
+--   spreading f m d w s p   the walk, from the place p on, in at most f turns
 --   Going              what a search tells that goes on from one card, and the memory after it: it breaks off with the link at which it met the other;
 --                      else it tells where it stands now
---   advanced c x m p s what it tells that went on from the place p, where the slot s is, which told x and left the memory m
+--   advanced c x m p s what it tells that went on from the seat p, where the slot s is, which told x and left the memory m
 --   moved c x p s      the two, together
 --   gone_on m w c      the search c goes on from the card at its cursor
 --   idle c             it has nothing to go on from
@@ -24,56 +24,52 @@
 --   hunted f m w c d   the two searches in turn, c first, at most f turns
 --   started m l        the memory with the ends of the link l marked
 --   part_of m l        the part between them
---   front d p          the search d at its start, from the place p
+--   front d p          the search d at its start, from the seat p
 --   meeting m l        the searches from both ends of the link l
 use Rattle.std.specs.Prelude.{ℕ, zero, suc, Bool, true, false, cond, not, ◌&&◌, List, Some, None, Option, nat_le}
 use Rattle.std.specs.declared.ops.ControlFlow.{ControlFlow}
 use Rattle.std.specs.declared.ops.ControlFlow.TheVariants.{Continue, Break}
-use Rattle.row.specs.declared.board.Link.{Link}
-use Rattle.row.specs.Columns.{cell, written}
-use Rattle.row.specs.Layout.{slots, places}
-use Rattle.row.specs.Lookup.{given}
-use Rattle.links.specs.declared.chain.Meeting.{Meeting}
-use Rattle.links.specs.declared.chain.Meeting.TheVariants.{End, Dead, Living}
-use Rattle.links.specs.Chains.{met, stepped}
+use Rattle.order.specs.declared.board.Link.{Link}
+use Rattle.memory.specs.Columns.{cell, written}
+use Rattle.memory.specs.Options.{given}
+use Rattle.memory.specs.PlaceSets.{marked, fresh, added}
+use Rattle.row.specs.declared.layout.TheConstants.{SLOTS, SEATS}
+use Rattle.chains.specs.declared.cells.Pointer.{Pointer}
+use Rattle.chains.specs.Tables.{node}
+use Rattle.chains.specs.Walks.{met}
 use Rattle.search.specs.declared.side.Side.{Side}
 use Rattle.search.specs.declared.side.Side.TheVariants.{Fore, Hind}
+use Rattle.search.specs.declared.hunt.TheConstants.{FUEL, TURNS}
 use Rattle.search.specs.declared.hunt.Part.{Part}
 use Rattle.search.specs.declared.hunt.Front.{Front}
-use Rattle.search.specs.Layout.{fore, hind, via}
-use Rattle.search.specs.Marks.{marked, fresh, added}
-use Rattle.search.specs.Sides.{chain_of, marks_of, other, far_end, ahead, joined}
+use Rattle.search.specs.declared.layout.TheConstants.{VIA, FORE, HIND}
+use Rattle.search.specs.Sides.{table_of, marks_of, other, ahead, joined}
 
 abbrev pub inside : Part → ℕ → Bool
 inside w q = nat_le w.low q && nat_le q w.high
 
 unfoldable pub sees : List ℕ → Side → Part → ℕ → Bool
-sees m d w t = inside w (cell m places t) && marked m (marks_of (other d)) (cell m places t)
+sees m d w t = inside w (cell m SEATS t) && marked m (marks_of (other d)) (cell m SEATS t)
 
 unfoldable pub entered : List ℕ → Side → Part → ℕ → ℕ → List ℕ
 entered m d w s t =
-    cond (not (sees m d w t) && (inside w (cell m places t) && fresh m (marks_of d) (cell m places t)))
-    (written (added m (marks_of d) (cell m places t)) via t s) m
+    cond (inside w (cell m SEATS t) && (not (marked m (marks_of (other d)) (cell m SEATS t)) && fresh m (marks_of d) (cell m SEATS t)))
+    (written (added m (marks_of d) (cell m SEATS t)) VIA t s) m
 
-pub record Taken : Type 0 where
-  pub turn : ControlFlow (Option ℕ) ℕ
+pub record Turn : Type 0 where
+  pub told : ControlFlow (Option ℕ) ℕ
   pub memory : List ℕ
 
-abbrev pub turned : List ℕ → Side → Part → ℕ → ℕ → Meeting → ControlFlow (Option ℕ) ℕ
-turned m d w s p End = Break None
-turned m d w s p Dead = Continue p
-turned m d w s p (Living l n) = cond (sees m d w (far_end m d l)) (Break (Some (far_end m d l))) (Continue n)
+abbrev pub turned : List ℕ → Side → Part → Option Pointer → ControlFlow (Option ℕ) ℕ
+turned m d w None = Break None
+turned m d w (Some x) = cond (sees m d w x.label) (Break (Some x.label)) (Continue (node (table_of d) x.held))
 
-abbrev pub left_by : List ℕ → Side → Part → ℕ → Meeting → List ℕ
-left_by m d w s End = m
-left_by m d w s Dead = m
-left_by m d w s (Living l n) = entered m d w s (far_end m d l)
+abbrev pub left_by : List ℕ → Side → Part → ℕ → Option Pointer → List ℕ
+left_by m d w s None = m
+left_by m d w s (Some x) = entered m d w s x.label
 
-unfoldable pub taken : List ℕ → Side → Part → ℕ → ℕ → Taken
-taken m d w s p = record {
-  turn = turned (stepped m (chain_of d) p) d w s p (met m (chain_of d) p);
-  memory = left_by (stepped m (chain_of d) p) d w s (met m (chain_of d) p);
-}
+unfoldable pub turn : List ℕ → Side → Part → ℕ → ℕ → Turn
+turn m d w s p = record { told = turned m d w (met (table_of d) m p); memory = left_by m d w s (met (table_of d) m p) }
 
 pub record Spreading : Type 0 where
   pub spread : ControlFlow ℕ ℕ
@@ -82,12 +78,12 @@ pub record Spreading : Type 0 where
 abbrev pub spread_on : ControlFlow (Option ℕ) ℕ → ℕ → List ℕ → (ℕ → Spreading) → Spreading
 spread_on (Break None) f m k = record { spread = Continue f; memory = m }
 spread_on (Break (Some t)) f m k = record { spread = Break t; memory = m }
-spread_on (Continue n) f m k = k n
+spread_on (Continue p) f m k = k p
 
 unfoldable pub spreading : ℕ → List ℕ → Side → Part → ℕ → ℕ → Spreading
 spreading zero m d w s p = record { spread = Continue 0; memory = m }
 spreading (suc f) m d w s p =
-    spread_on (taken m d w s p).turn f (taken m d w s p).memory (λ n. spreading f (taken m d w s p).memory d w s n)
+    spread_on (turn m d w s p).told f (turn m d w s p).memory (λ q. spreading f (turn m d w s p).memory d w s q)
 
 pub record Going : Type 0 where
   pub advance : ControlFlow Link Front
@@ -103,7 +99,7 @@ moved c x p s = record { advance = advanced c x.spread x.memory p s; memory = x.
 unfoldable pub gone_on : List ℕ → Part → Front → Going
 gone_on m w c =
     given c.cursor (record { advance = Continue c; memory = m })
-    (λ p. moved c (spreading c.fuel m c.side w (cell m slots p) (cell m slots p)) p (cell m slots p))
+    (λ p. moved c (spreading c.fuel m c.side w (cell m SLOTS p) (cell m SLOTS p)) p (cell m SLOTS p))
 
 abbrev pub idle : Front → Bool
 idle c = given c.cursor true (λ p. false)
@@ -126,13 +122,13 @@ hunted (suc f) m w c d =
     (hunt_on (gone_on m w c).advance (gone_on m w c).memory (λ e. hunted f (gone_on m w c).memory w d e))
 
 abbrev pub started : List ℕ → Link → List ℕ
-started m l = added (added m fore (cell m places l.to)) hind (cell m places l.from)
+started m l = added (added m FORE.column (cell m SEATS l.to)) HIND.column (cell m SEATS l.from)
 
 abbrev pub part_of : List ℕ → Link → Part
-part_of m l = record { low = cell m places l.to; high = cell m places l.from }
+part_of m l = record { low = cell m SEATS l.to; high = cell m SEATS l.from }
 
 abbrev pub front : Side → ℕ → Front
-front d p = record { side = d; cursor = Some p; fuel = 75776 }
+front d p = record { side = d; cursor = Some p; fuel = FUEL }
 
 unfoldable pub meeting : List ℕ → Link → Met
-meeting m l = hunted 16384 (started m l) (part_of m l) (front Fore (cell m places l.to)) (front Hind (cell m places l.from))
+meeting m l = hunted TURNS (started m l) (part_of m l) (front Fore (cell m SEATS l.to)) (front Hind (cell m SEATS l.from))

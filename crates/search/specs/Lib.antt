@@ -1,6 +1,4 @@
-pub mod Layout
-pub mod Marks
-pub mod MarkLaws
+pub mod Columns
 pub mod Meaning
 pub mod Way
 pub mod WayLaws

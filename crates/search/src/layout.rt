@@ -1,31 +1,32 @@
 // Where the columns of this crate lie in the lent memory, behind those of `links`.
-use crate::marks::Marks;
-use row::{CARDS, Column};
-
-// The places that a search forward has come to.
-pub const FORE: Marks = Marks {
-    column: Column {
-        base: 478040,
-        size: 192,
-    },
-};
-
-// The places that a search backward has come to.
-pub const HIND: Marks = Marks {
-    column: Column {
-        base: 478304,
-        size: 192,
-    },
-};
+use links::PAIR;
+use memory::{Column, PAD, PlaceSet, SET_WORDS};
+use order::CARDS;
 
 // By slot: the slot that a search came from.
 pub const VIA: Column = Column {
-    base: 461512,
+    base: PAIR.cells.base + PAIR.cells.size + PAD,
     size: CARDS,
 };
 
-// The slots that get new places, in their new order.
+// The slots that get new seats, in their new order.
 pub const CHOSEN: Column = Column {
-    base: 469776,
+    base: VIA.base + VIA.size + PAD,
     size: CARDS,
+};
+
+// The seats that a search forward has come to.
+pub const FORE: PlaceSet = PlaceSet {
+    column: Column {
+        base: CHOSEN.base + CHOSEN.size + PAD,
+        size: SET_WORDS,
+    },
+};
+
+// The seats that a search backward has come to.
+pub const HIND: PlaceSet = PlaceSet {
+    column: Column {
+        base: FORE.column.base + FORE.column.size + PAD,
+        size: SET_WORDS,
+    },
 };

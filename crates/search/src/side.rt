@@ -1,11 +1,12 @@
 // The two searches: forward along the links out of a card, and backward along those into it.
 ghost use Rattle.std.specs.Prelude.{◌≡◌};
-ghost use Rattle.search.specs.Sides.{chain_of, marks_of, other, far_end, ahead, joined};
+ghost use Rattle.search.specs.Sides.{table_of, marks_of, other, ahead, joined};
 
 use crate::layout::{FORE, HIND};
-use crate::marks::Marks;
-use links::{Chain, from_of, to_of};
-use row::Link;
+use chains::ChainTable;
+use links::{IN, OUT};
+use memory::{Memory, PlaceSet};
+use order::Link;
 
 // An enum, and not a trait with a type for each: the searches take turns in one loop, where each comes to stand in the other's place.
 #[derive(Clone, Copy)]
@@ -15,18 +16,20 @@ pub(crate) enum Side {
 }
 
 impl Side {
-    // The chains by which it goes on.
-    pub(crate) fn chain(self) -> Chain
-        ensures { result ≡ chain_of self }
+    // The chains by which it goes on. A pointer's label is the slot that its link leads to.
+    #[inline(always)]
+    pub(crate) fn table(self) -> ChainTable
+        ensures { result ≡ table_of self }
     {
         match self {
-            Side::Fore => Chain::Out,
-            Side::Hind => Chain::In,
+            Side::Fore => OUT,
+            Side::Hind => IN,
         }
     }
 
-    // The places that it has come to.
-    pub(crate) fn marks(self) -> Marks
+    // The seats that it has come to.
+    #[inline(always)]
+    pub(crate) fn marks(self) -> PlaceSet
         ensures { result.column ≡ marks_of self }
     {
         match self {
@@ -35,6 +38,7 @@ impl Side {
         }
     }
 
+    #[inline(always)]
     pub(crate) fn other(self) -> Side
         ensures { result ≡ other self }
     {
@@ -44,23 +48,13 @@ impl Side {
         }
     }
 
-    // The slot that an entry's link leads it to.
-    pub(crate) fn far_end(self, memory: &[u64], entry: u64) -> u64
-        ensures { result ≡ far_end memory.now self entry }
+    // The next seat that it has come to: to the right forward, to the left backward.
+    pub(crate) fn next(self, memory: &Memory, seat: u64) -> Option<u64>
+        ensures { result ≡ ahead memory.now self seat }
     {
         match self {
-            Side::Fore => to_of(memory, entry),
-            Side::Hind => from_of(memory, entry),
-        }
-    }
-
-    // The next place that it has come to: to the right forward, to the left backward.
-    pub(crate) fn next(self, memory: &[u64], place: u64) -> Option<u64>
-        ensures { result ≡ ahead memory.now self place }
-    {
-        match self {
-            Side::Fore => FORE.next_up(memory, place),
-            Side::Hind => HIND.next_down(memory, place),
+            Side::Fore => FORE.next_up(memory, seat),
+            Side::Hind => HIND.next_down(memory, seat),
         }
     }
 
