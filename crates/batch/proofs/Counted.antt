@@ -11,8 +11,8 @@ use Rattle.row.specs.Layout.{tally, places}
 use Rattle.row.specs.Moves.{came, gone, place_found}
 use Rattle.memory.proofs.Options.{given_holds}
 use Rattle.links.specs.Entries.{found as entry_found}
-use Rattle.links.specs.Layout.{live}
-use Rattle.links.specs.Removing.{removed}
+use Rattle.links.specs.Entries.{live}
+use Rattle.links.specs.Entries.{removed}
 use Rattle.search.specs.Hunt.{meeting}
 use Rattle.keeper.specs.declared.layout.TheConstants.{TOLD}
 use Rattle.keeper.specs.declared.event.Event.{Event}

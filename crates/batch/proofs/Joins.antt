@@ -14,9 +14,9 @@ use Rattle.row.specs.Meaning.{cards}
 use Rattle.order.proofs.Filters.{same_itself}
 use Rattle.order.proofs.Leading.{leads_just}
 use Rattle.links.specs.declared.layout.TheConstants.{ENTRIES}
-use Rattle.links.specs.Layout.{live}
-use Rattle.links.specs.Entries.{joins as same_link}
-use Rattle.links.specs.Meaning.{edges, once}
+use Rattle.links.specs.Entries.{live}
+use Rattle.links.specs.Pairs.{joins as same_link}
+use Rattle.links.specs.Table.{edges, once}
 use Rattle.links.proofs.Operating.{counts}
 use Rattle.search.specs.Meaning.{Ready}
 use Rattle.search.specs.Hunt.{meeting}

@@ -11,7 +11,7 @@ use Rattle.order.specs.Board.{Board, keeps, fine}
 use Rattle.command.specs.Commands.{told_rows}
 use Rattle.order.proofs.Climbs.{fine_parts}
 use Rattle.links.specs.declared.layout.TheConstants.{ENTRIES}
-use Rattle.links.specs.Layout.{live}
+use Rattle.links.specs.Entries.{live}
 use Rattle.links.proofs.Operating.{counts}
 use Rattle.keeper.specs.Engine.{Ran}
 use Rattle.keeper.specs.Answers.{Answer, quiet, refuses, leaves_pending}

@@ -7,8 +7,8 @@ use Rattle.order.specs.declared.board.Link.{Link}
 use Rattle.memory.specs.Columns.{cell}
 use Rattle.row.specs.Layout.{ids, places}
 use Rattle.memory.proofs.Options.{given_holds}
-use Rattle.links.specs.Layout.{live}
-use Rattle.search.specs.Layout.{via}
+use Rattle.links.specs.Entries.{live}
+use Rattle.search.specs.declared.layout.TheConstants.{VIA}
 use Rattle.search.specs.Hunt.{meeting}
 use Rattle.search.specs.Way.{way}
 use Rattle.search.proofs.Joining.{way_few}

@@ -9,8 +9,8 @@ use Rattle.order.specs.declared.board.Refusal.TheVariants.{Missing, Exists, Full
 use Rattle.order.specs.Lists.{every}
 use Rattle.memory.specs.Columns.{cell}
 use Rattle.row.specs.Layout.{tally, ids, places}
-use Rattle.links.specs.Layout.{live}
-use Rattle.search.specs.Layout.{via}
+use Rattle.links.specs.Entries.{live}
+use Rattle.search.specs.declared.layout.TheConstants.{VIA}
 use Rattle.search.specs.Hunt.{meeting}
 use Rattle.search.specs.Settle.{settled}
 use Rattle.search.specs.Way.{way}

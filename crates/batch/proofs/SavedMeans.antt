@@ -6,7 +6,7 @@ use Rattle.order.specs.Lists.{every}
 use Rattle.order.specs.Board.{Board}
 use Rattle.row.specs.Layout.{tally, ids, chain, slots, places}
 use Rattle.links.specs.declared.layout.TheConstants.{ENTRIES}
-use Rattle.links.specs.Meaning.{once}
+use Rattle.links.specs.Table.{once}
 use Rattle.search.specs.Layout.{fore, hind}
 use Rattle.search.proofs.Sounding.{alike_only}
 use Rattle.keeper.specs.Promise.{small_command}

@@ -4,7 +4,7 @@ use Rattle.std.proofs.lemmas.Bool.{le-leb, lt-leb}
 use Rattle.order.specs.declared.board.TheConstants.{LINKS}
 use Rattle.order.specs.declared.board.Link.{Link}
 use Rattle.order.specs.declared.board.Refusal.TheVariants.{Full}
-use Rattle.links.specs.Layout.{live}
+use Rattle.links.specs.Entries.{live}
 use Rattle.keeper.specs.declared.event.Act.TheVariants.{Done}
 use Rattle.keeper.specs.Answers.{quiet, ends, refuses}
 use Rattle.batch.specs.declared.seating.Span.{Span}

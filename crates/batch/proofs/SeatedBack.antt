@@ -15,7 +15,7 @@ use Rattle.row.proofs.Present.{length_cards}
 use Rattle.order.proofs.Climbs.{fine_parts}
 use Rattle.order.proofs.Tabulated.{made_same, made_apart, distinct_made, take_made}
 use Rattle.order.proofs.Parts.{with_part, row_in_parts}
-use Rattle.links.specs.Meaning.{edges, once}
+use Rattle.links.specs.Table.{edges, once}
 use Rattle.links.proofs.Sameness.{edges_alike, tabled_alike}
 use Rattle.search.specs.Meaning.{slot_board}
 use Rattle.keeper.specs.Meaning.{Means}

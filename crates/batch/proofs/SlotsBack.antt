@@ -13,7 +13,7 @@ use Rattle.order.specs.Renaming.{named, renamed}
 use Rattle.row.proofs.Present.{found_there}
 use Rattle.row.proofs.Named.{row_used}
 use Rattle.order.proofs.RenamesLinks.{Known}
-use Rattle.links.specs.Meaning.{edges}
+use Rattle.links.specs.Table.{edges}
 use Rattle.search.specs.Meaning.{slot_board}
 use Rattle.batch.proofs.LookUps.{found_alike}
 use Rattle.keeper.specs.Meaning.{Means}

@@ -13,9 +13,9 @@ use Rattle.row.specs.Meaning.{used}
 use Rattle.order.proofs.Climbs.{fine_parts, link_ends}
 use Rattle.row.proofs.Depending.{depends}
 use Rattle.order.proofs.RenamesLinks.{Known, joins_map}
-use Rattle.links.specs.Entries.{joins}
-use Rattle.links.specs.Removing.{removed}
-use Rattle.links.specs.Meaning.{edges, once}
+use Rattle.links.specs.Pairs.{joins}
+use Rattle.links.specs.Entries.{removed}
+use Rattle.links.specs.Table.{edges, once}
 use Rattle.links.proofs.Operating.{stays_once}
 use Rattle.links.proofs.Bounding.{writes_only}
 use Rattle.search.specs.Meaning.{Ready}
@@ -29,7 +29,7 @@ use Rattle.keeper.proofs.Unlinking.{law, fine_after, board_after}
 use Rattle.batch.specs.Several.{with_links}
 use Rattle.batch.specs.Joining.{dropped, taken_out}
 use Rattle.batch.specs.UndoLaws.{TakesOut}
-use Rattle.links.proofs.Edging.{any_append}
+use Rattle.batch.proofs.Anys.{any_append}
 use Rattle.batch.proofs.Tries.{small_parts}
 
 -- a link that is there once, taken out of a list

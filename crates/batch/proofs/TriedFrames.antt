@@ -6,8 +6,8 @@ use Rattle.memory.specs.declared.column.Column.{Column}
 use Rattle.memory.specs.Columns.{cell, apart}
 use Rattle.row.specs.Layout.{slots, places}
 use Rattle.memory.proofs.Options.{given_holds}
-use Rattle.links.specs.Building.{inserted}
-use Rattle.links.specs.Removing.{removed}
+use Rattle.links.specs.Entries.{inserted}
+use Rattle.links.specs.Entries.{removed}
 use Rattle.links.specs.Frames.{aside}
 use Rattle.links.proofs.Bounding.{writes_only, writes_words}
 use Rattle.search.specs.Layout.{fore, hind, chosen}
