@@ -84,7 +84,7 @@ module _ (F : ChainTable) (f : ℕ → Cell) where
     | inr n ↦ let t : eqb h x.held ≡ false = grind (arith, nat_tests) in has_more x xs h (numbers_has h xs (let q : (eqb h x.held || list_any (eqb h) (map (λ x. x.held) xs)) ≡ true = e in rw t at q))
   ]
 
-  none_zero : (xs : List Pointer) (p : ℕ) → Spells F f p xs → has 0 xs ≡ false
+  pub none_zero : (xs : List Pointer) (p : ℕ) → Spells F f p xs → has 0 xs ≡ false
   none_zero [] p s = refl
   none_zero (x ∷ xs) p s = let e : eqb x.held 0 ≡ false = let i = s.1.entry in grind (arith, nat_tests) in rw e (none_zero xs (node F x.held) s.3)
 

@@ -1,6 +1,5 @@
 -- Walks along a chain.
 --
---   given o z f        f of what is in an Option, z where there is nothing
 --   met_by g p         what the cell at p holds, if anything, by the numbers g of a table's column
 --   met F m p          what the cell at p holds, if anything
 --   walked_by f F g p  what is met from the place p on, at most f of it, by the numbers g
@@ -8,15 +7,12 @@
 --   walk_left w        what a walk has left
 use Rattle.std.specs.Prelude.{ℕ, zero, suc, cond, List, [], ◌∷◌, Option, Some, None, ◌==◌}
 use Rattle.memory.specs.Columns.{cell}
+use Rattle.memory.specs.Options.{given}
 use Rattle.chains.specs.declared.cells.Pointer.{Pointer}
 use Rattle.chains.specs.declared.chain_table.ChainTable.{ChainTable}
 use Rattle.chains.specs.declared.walk.Walk.{Walk}
 use Rattle.chains.specs.Packing.{decoded}
 use Rattle.chains.specs.Tables.{node}
-
-abbrev pub given : {A B : Type 0} → Option A → B → (A → B) → B
-given None d f = d
-given (Some a) d f = f a
 
 abbrev pub met_by : (ℕ → ℕ) → ℕ → Option Pointer
 met_by g p = cond ((decoded (g p)).next.held == 0) None (Some (decoded (g p)).next)

@@ -1,18 +1,5 @@
-pub mod Turns
-pub mod Keeping
-pub mod Walking
-pub mod Edging
-pub mod Telling
-pub mod Columns
-pub mod Sameness
-pub mod Stepping
-pub mod Seeking
-pub mod Dying
-pub mod Striking
-pub mod Adding
-pub mod Appending
-pub mod Emptying
-pub mod Again
-pub mod Framing
-pub mod Bounding
-pub mod Operating
+mod Pairing
+mod Turns
+mod Filtering
+mod Parting
+pub mod Writing

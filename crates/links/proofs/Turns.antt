@@ -1,38 +1,31 @@
--- The steps of the loops.
-use Rattle.std.proofs.Common.{◌≡◌, ℕ, ◌+◌, ◌-◌, ◌<◌, ◌≤◌, List, Some, None}
-use Rattle.memory.specs.Options.{given}
-use Rattle.memory.proofs.Fuel.{fuel_step, fuel_end}
-use Rattle.links.specs.declared.chain.Chain.{Chain}
-use Rattle.links.specs.Layout.{heads}
-use Rattle.links.specs.Chains.{followed}
-use Rattle.links.specs.Entries.{buried}
-use Rattle.links.specs.Building.{carried, refilled}
-use Rattle.links.specs.Removing.{struck}
+-- The turns of the loop along a chain, against its model.
+use Rattle.std.proofs.Common.{◌≡◌, ℕ, zero, suc, ◌+◌, ◌-◌, ◌<◌, ◌≤◌, List, Some, None, ap, ◌∙◌, refl, arith}
+use Rattle.chains.specs.declared.cells.Pointer.{Pointer}
+use Rattle.chains.specs.declared.chain_table.ChainTable.{ChainTable}
+use Rattle.chains.specs.Tables.{node, unhooked}
+use Rattle.chains.specs.Walks.{met}
+use Rattle.links.specs.Entries.{freed, dropped}
 
-struck_at : (N i : ℕ) (m : List ℕ) (c : Chain) (p : ℕ) → i < N →
-    struck (N - i) m c p ≡ given (followed m c p) m (λ l. struck (N - (i + 1)) (buried m l) c (heads c + l))
-unfolding struck
-struck_at N i m c p h = fuel_step (λ f. struck f m c p) N i h
+module _ (F G : ChainTable) where
+  pub dropped_none : (f : ℕ) (m : List ℕ) (p : ℕ) → met F m p ≡ None → dropped f F G m p ≡ m
+  unfolding dropped
+  dropped_none zero m p e = refl
+  dropped_none (suc f) m p e = rw e refl
 
-pub struck_stop : (N i : ℕ) (m : List ℕ) (c : Chain) (p : ℕ) → i < N → followed m c p ≡ None → struck (N - i) m c p ≡ m
-struck_stop N i m c p h e = rw e at (struck_at N i m c p h)
+  pub dropped_some : (f g : ℕ) (m : List ℕ) (p : ℕ) (x : Pointer) → f ≡ suc g → met F m p ≡ Some x
+      → dropped f F G m p ≡ dropped g F G (freed (unhooked G m x.held) x.held) (node F x.held)
+  unfolding dropped
+  dropped_some f g m p x i e = ap (λ (n : ℕ). dropped n F G m p) i ∙ rw e refl
 
-pub struck_go : (N i : ℕ) (m : List ℕ) (c : Chain) (p l : ℕ) → i < N → followed m c p ≡ Some l →
-    struck (N - i) m c p ≡ struck (N - (i + 1)) (buried m l) c (heads c + l)
-struck_go N i m c p l h e = rw e at (struck_at N i m c p h)
+  pub dropped_stop : (N i : ℕ) (m : List ℕ) (p : ℕ) → i < N → met F m p ≡ None → dropped (N - i) F G m p ≡ m
+  dropped_stop N i m p h e = dropped_none (N - i) m p e
 
-pub struck_end : (N i : ℕ) (m : List ℕ) (c : Chain) (p : ℕ) → N ≤ i → struck (N - i) m c p ≡ m
-unfolding struck
-struck_end N i m c p h = fuel_end (λ f. struck f m c p) N i h
+  pub dropped_go : (N i : ℕ) (m : List ℕ) (p : ℕ) (x : Pointer) → i < N → met F m p ≡ Some x
+      → dropped (N - i) F G m p ≡ dropped (N - (i + 1)) F G (freed (unhooked G m x.held) x.held) (node F x.held)
+  dropped_go N i m p x h e = dropped_some (N - i) (N - (i + 1)) m p x (omega arith) e
 
-pub ruleset strikes = (struck_stop, struck_go, struck_end)
+  pub dropped_end : (N i : ℕ) (m : List ℕ) (p : ℕ) → N ≤ i → dropped (N - i) F G m p ≡ m
+  unfolding dropped
+  dropped_end N i m p h = ap (λ (n : ℕ). dropped n F G m p) (let e : N - i ≡ 0 = omega arith in e)
 
-pub refilled_go : (N i : ℕ) (m : List ℕ) → i < N → refilled (N - i) m i ≡ refilled (N - (i + 1)) (carried m i) (i + 1)
-unfolding refilled
-refilled_go N i m h = fuel_step (λ f. refilled f m i) N i h
-
-pub refilled_end : (N i j : ℕ) (m : List ℕ) → N ≤ i → refilled (N - i) m j ≡ m
-unfolding refilled
-refilled_end N i j m h = fuel_end (λ f. refilled f m j) N i h
-
-pub ruleset refills = (refilled_go, refilled_end)
+pub ruleset drops = (dropped_stop, dropped_go, dropped_end)

@@ -1,10 +1,4 @@
-pub mod Skips
-pub mod Layout
-pub mod Chains
+pub mod Pairs
 pub mod Entries
-pub mod Building
-pub mod Removing
-pub mod Meaning
-pub mod Frames
-pub mod Steps
+pub mod Table
 pub mod Laws

@@ -1,51 +1,58 @@
-// Entries of the table: what they hold, and how they die.
-ghost use Rattle.std.specs.Prelude.{◌≡◌};
-ghost use Rattle.memory.specs.Columns.{cell};
-ghost use Rattle.links.specs.Layout.{froms, tos, live, end};
-ghost use Rattle.links.specs.Entries.{buried};
+// Entries: how many hold links, and how they are taken and given back.
+ghost use Rattle.std.specs.Prelude.{◌≡◌, [], ◌∷◌};
+ghost use Rattle.memory.specs.Footprints.{Writes};
+ghost use Rattle.links.specs.Entries.{live, free_entry, taken, freed};
+ghost use Rattle.links.specs.Laws.{Counts};
 
-use crate::layout::{DEAD, END, FROM, LIVE, TO};
+use crate::layout::{AGE, ENTRIES, FREE, LIVE, PAIR, USED};
+use chains::Pointer;
 use memory::Memory;
-use order::CARDS;
-use row::TALLY;
 
 // How many links there are.
+#[tactic(auto, using(crate::proofs::Promises::promises))]
+#[inline(always)]
 pub fn len(memory: &Memory) -> u64
-    ensures { result ≡ live memory.now }
+    ensures is { result ≡ live memory.now }
+    ensures counts { Counts memory.now result }
 {
-    TALLY.get(memory, LIVE)
+    LIVE.get(memory, 0)
 }
 
-// How many entries are in use, dead ones too: any number, in a garbage memory.
-pub fn used(memory: &Memory) -> u64
-    ensures { result ≡ end memory.now }
+// Takes an entry for a link: one that is free again, or the one behind those that were ever in use, if there is one left.
+#[tactic(auto, unfolding(crate::specs::Entries::free_entry, crate::specs::Entries::taken))]
+#[inline(always)]
+pub(crate) fn take_entry(memory: &mut Memory) -> Option<u64>
+    ensures is { result ≡ free_entry memory.old }
+    ensures after { memory.new ≡ taken memory.old }
 {
-    TALLY.get(memory, END)
-}
-
-// The slot that an entry's link comes out of.
-pub fn from_of(memory: &Memory, entry: u64) -> u64
-    ensures { result ≡ cell memory.now froms entry }
-{
-    FROM.get(memory, entry)
-}
-
-// The slot that it goes into.
-pub fn to_of(memory: &Memory, entry: u64) -> u64
-    ensures { result ≡ cell memory.now tos entry }
-{
-    TO.get(memory, entry)
-}
-
-// Marks an entry dead, if it lives.
-#[tactic(auto, unfolding(crate::specs::Entries::buried))]
-pub(crate) fn bury(memory: &mut Memory, entry: u64)
-    ensures { memory.new ≡ buried memory.old entry }
-{
-    if from_of(memory, entry) < CARDS {
-        let live = len(memory);
-        FROM.set(memory, entry, DEAD);
-        TO.set(memory, entry, DEAD);
-        TALLY.set(memory, LIVE, live.saturating_sub(1));
+    if let Some(pointer) = AGE.follow(memory, FREE) {
+        AGE.unhook(memory, pointer.held);
+        return Some(pointer.held);
     }
+    let used = USED.get(memory, 0);
+    if used >= ENTRIES {
+        return None;
+    }
+    USED.set(memory, 0, used + 1);
+    Some(used + 1)
+}
+
+// Takes an entry, whose link is in no slot's chain any more, out of the other chains, and gives it back.
+#[tactic(auto, unfolding(crate::specs::Entries::freed))]
+#[inline(always)]
+pub(crate) fn give_back(memory: &mut Memory, entry: u64)
+    ensures { memory.new ≡ freed memory.old entry }
+{
+    PAIR.unhook(memory, entry);
+    AGE.unhook(memory, entry);
+    AGE.push(
+        memory,
+        FREE,
+        Pointer {
+            held: entry,
+            label: 0,
+        },
+    );
+    let live = LIVE.get(memory, 0);
+    LIVE.set(memory, 0, live.saturating_sub(1));
 }

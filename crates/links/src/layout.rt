@@ -1,60 +1,65 @@
-// Where the columns of this crate lie in the lent memory, behind those of `row`. They begin at different offsets within a page.
-use memory::Column;
-use order::CARDS;
-use row::Family;
+// Where the columns of this crate lie in the lent memory.
+use chains::ChainTable;
+use memory::{Column, LINKS_BASE, PAD};
+use order::{CARDS, LINKS};
 
-// How many entries the table has: more than there may be living links, so that building it again makes room for some.
-pub const ENTRIES: u64 = 67584;
+// How many entries the table has: a few more than there may be links, so that links may be counted once they are all there.
+pub const ENTRIES: u64 = LINKS + 256;
 
-// The dead may outnumber the living by so many, before the table is built again.
-pub const SLACK: u64 = 4096;
+// How many links there are.
+pub const LIVE: Column = Column {
+    base: LINKS_BASE,
+    size: 1,
+};
 
-// In `row`'s TALLY: how many links there are, and how many entries are in use, dead ones too.
-pub const LIVE: u64 = 2;
+// How many entries were ever in use: the last of them, since they are taken in turn.
+pub const USED: Column = Column {
+    base: LIVE.base + LIVE.size,
+    size: 1,
+};
 
-pub const END: u64 = 3;
-
-// The three families of chains through the table. The first two have a head to a slot, the third one to a bucket of pairs.
-pub const OUT: Family = Family {
-    pointers: Column {
-        base: 41312,
-        size: CARDS + ENTRIES,
+// By the slot that a link comes out of; the label is the slot that it goes into.
+pub const OUT: ChainTable = ChainTable {
+    cells: Column {
+        base: USED.base + USED.size + PAD,
+        size: CARDS + 1 + ENTRIES,
     },
-    heads: CARDS,
-    entries: ENTRIES,
+    heads: CARDS as u32,
 };
 
-pub const IN: Family = Family {
-    pointers: Column {
-        base: 117160,
-        size: CARDS + ENTRIES,
+// By the slot that a link goes into; the label is the slot that it comes out of.
+pub const IN: ChainTable = ChainTable {
+    cells: Column {
+        base: OUT.cells.base + OUT.cells.size + PAD,
+        size: CARDS + 1 + ENTRIES,
     },
-    heads: CARDS,
-    entries: ENTRIES,
+    heads: CARDS as u32,
 };
 
-pub const PAIR: Family = Family {
-    pointers: Column {
-        base: 193008,
-        size: 65536 + ENTRIES,
+// All links in one chain, and the entries that are free again in another. A link's label is its pair of slots.
+pub const AGE: ChainTable = ChainTable {
+    cells: Column {
+        base: IN.cells.base + IN.cells.size + PAD,
+        size: 2 + 1 + ENTRIES,
     },
-    heads: 65536,
-    entries: ENTRIES,
+    heads: 2,
 };
 
-// How many spread numbers share a bucket of pairs: 2^64 over how many heads there are.
-pub const BUCKET: u64 = 0x0001_0000_0000_0000;
+// The keys of those two chains.
+pub const ALL: u64 = 0;
 
-// No slot: what a dead entry holds.
-pub const DEAD: u64 = CARDS;
+pub const FREE: u64 = 1;
 
-// By entry: the slots that the link comes out of and goes into; DEAD, where the entry is dead.
-pub const FROM: Column = Column {
-    base: 326200,
-    size: ENTRIES,
-};
+// How many buckets of pairs there are, and how many spread numbers share one: 2^64 over how many there are.
+pub const BUCKETS: u64 = 32768;
 
-pub const TO: Column = Column {
-    base: 393856,
-    size: ENTRIES,
+pub const BUCKET: u64 = 0x0002_0000_0000_0000;
+
+// By the bucket of a link's pair of slots; the label is the pair.
+pub const PAIR: ChainTable = ChainTable {
+    cells: Column {
+        base: AGE.cells.base + AGE.cells.size + PAD,
+        size: BUCKETS + 1 + ENTRIES,
+    },
+    heads: BUCKETS as u32,
 };

@@ -4,3 +4,4 @@ pub mod Reordering
 pub mod Theory
 pub mod Renaming
 pub mod Kept
+pub mod Outcomes

@@ -1,115 +1,118 @@
--- What is so of the row in its memory, in the words of the board. Each is a statement; its proof is asked for by a function of src/laws.rt.
+-- What is so of the row in its memory, in the words of the board: m is the memory before, m' after, r what was answered.
 --
---   Begins         zeros stand, with no cards
---   Apart          no card stands twice
---   Came           a card came, into a slot: it is last, and the others stay
---   ComesAppends   a card that comes is last; it's refused if it's there, or if there are 8,192
---   Gone           a card went, out of a slot: the others stay in their order
---   GoesFilters    a card that goes leaves the others in their order; it's refused if it isn't there
---   Finds          a card is found if and only if it's there, and at its place
---   Tells          what is told is the row's middle
---   by_slot m ls   the board of the slots in the row, with these links between slots
---   by_card m ls   the board of the cards in the row, with the same links between cards
---   SlotsNamed     the board of cards is the board of slots with the cards' numbers for names, if its links are between cards
---   OnlyRow        a memory is as another but for the columns of this crate
---   ElseStays      nothing but the columns of this crate changes, and the memory keeps its length
---   SameRow        two memories agree on the columns of this crate
---   Depends        what the row means depends on the columns of this crate alone
-use Rattle.std.specs.Prelude.{◌≡◌, ℕ, ◌+◌, ◌<◌, ◌≤◌, true, false, cond, not, ◌&&◌, List, [], ◌∷◌, ◌++◌, map, length, take, drop, replicate, Some, None, Ok, ◌==◌}
+--   Came m k s m'      a card came, into a slot: it is last, and the others stay; if few seats were free among those in use, few are
+--   Comes m k r m'     a card that comes is last; it's refused if it's there, or if there is no room
+--   Gone m k s m'      a card went, out of a slot: the others stay in their order, and few seats are free among those in use
+--   Goes m k r m'      a card that goes leaves the others in their order; it's refused if it isn't there
+--   Counts m r         as many as there are cards
+--   Finds m k r        a card is found if and only if it's there
+--   FindsPlace m k r   and at its place
+--   Places m s r       a card's place is how many stand before it
+--   Orders m s r       the seat of a slot is before another's just if its place is
+--   Sits m p r         the slot at a taken seat has that seat
+--   Putting m p s m'   a slot that is put at a taken seat stands at the place of that seat: whoever reorders slots among their seats reorders the row
+--   Packed m m'        the row is on the first seats: a slot's seat is its place
+--   Packs m m'         and it is the same row
+--   Ranks m p r        the slot at a taken seat stands behind as many as there are taken seats before it
+--   Selects m n r      the slot that stands behind so many sits at this seat
+--   Next f p q         q is the first number from p on that passes the test f; the number of seats, if there is none
+--   Tells m p n o r x  what is told is the row's middle
+use Rattle.std.specs.Prelude.{◌≡◌, ℕ, ◌+◌, ◌*◌, ◌<◌, ◌≤◌, Bool, true, false, cond, not, List, [], ◌∷◌, ◌++◌, map, length, take, drop, Some, None, Ok, Err, Option, Result, ◌==◌, nat_lt, slice_index, slice_set}
+use Rattle.std.specs.List.{range_with_len}
+use Rattle.order.specs.declared.board.TheConstants.{CARDS}
+use Rattle.order.specs.declared.board.Refusal.{Refusal}
 use Rattle.order.specs.declared.board.Refusal.TheVariants.{Missing, Exists, Full}
-use Rattle.order.specs.declared.board.Link.{Link}
-use Rattle.memory.specs.declared.column.Column.{Column}
-use Rattle.order.specs.Lists.{every, has, place, distinct, filter}
-use Rattle.order.specs.Board.{Board}
-use Rattle.order.specs.Renaming.{named, renamed, Naming}
-use Rattle.memory.specs.Columns.{cell, apart}
-use Rattle.row.specs.Layout.{tally, ids, chain, slots, places}
-use Rattle.row.specs.Lookup.{found}
-use Rattle.row.specs.Moves.{refused, came, gone, place_found}
-use Rattle.row.specs.Telling.{told, told_count}
-use Rattle.row.specs.Meaning.{row_of, cards, used, Stands}
+use Rattle.order.specs.Lists.{has, place, filter}
+use Rattle.memory.specs.Columns.{cell}
+use Rattle.row.specs.declared.layout.TheConstants.{SEATS_MOST, SPARE, IDS, SLOTS, SEATS}
+use Rattle.row.specs.Meaning.{count, ending, taken, rank, row_of, cards, used, IsRow}
 
-abbrev pub Begins : Type 0
-Begins = Stands (replicate 524288 0) × (cards (replicate 524288 0) ≡ [])
-
-abbrev pub Apart : Type 0
-Apart = (m : List ℕ) → Stands m → distinct (cards m) ≡ true
-
--- a card came, into the slot s
 pub record Came (m : List ℕ) (k s : ℕ) (m' : List ℕ) : Type 0 where
-  pub stands : Stands m'
+  pub is_row : IsRow m'
   pub cards_are : cards m' ≡ cards m ++ k ∷ []
   pub slots_are : row_of m' ≡ row_of m ++ s ∷ []
-  pub is_card : cell m' ids s ≡ k
-  pub same_cards : (t : ℕ) → used m t ≡ true → cell m' ids t ≡ cell m ids t
+  pub is_card : cell m' IDS s ≡ k
+  pub same_cards : (t : ℕ) → used m t ≡ true → cell m' IDS t ≡ cell m IDS t
   pub was_free : used m s ≡ false
+  pub spare : ending m ≤ 2 * count m + SPARE → ending m' ≤ 2 * count m' + SPARE
 
-abbrev pub ComesAppends : Type 0
-ComesAppends =
-    (m : List ℕ) (k : ℕ) → Stands m →
-    (has (cards m) k ≡ true → came m k ≡ refused m Exists)
-    × (has (cards m) k ≡ false → 8192 ≤ length (cards m) → came m k ≡ refused m Full)
-    × (has (cards m) k ≡ false → length (cards m) < 8192 → (s : ℕ) × ((came m k).answer ≡ Ok s) × Came m k s (came m k).memory)
+unfoldable pub Comes : List ℕ → ℕ → Result ℕ Refusal → List ℕ → Type 0
+Comes m k r m' =
+    IsRow m →
+    (has (cards m) k ≡ true → (r ≡ Err Exists) × (m' ≡ m))
+    × (has (cards m) k ≡ false → CARDS ≤ length (cards m) → (r ≡ Err Full) × (m' ≡ m))
+    × (has (cards m) k ≡ false → length (cards m) < CARDS → (s : ℕ) × (r ≡ Ok s) × Came m k s m')
 
--- a card went, out of the slot s
 pub record Gone (m : List ℕ) (k s : ℕ) (m' : List ℕ) : Type 0 where
-  pub stands : Stands m'
+  pub is_row : IsRow m'
   pub cards_are : cards m' ≡ filter (λ j. not (j == k)) (cards m)
   pub slots_are : row_of m' ≡ filter (λ j. not (j == s)) (row_of m)
-  pub was_card : cell m ids s ≡ k
-  pub same_cards : (t : ℕ) → cell m' ids t ≡ cell m ids t
+  pub was_card : cell m IDS s ≡ k
+  pub same_cards : (t : ℕ) → cell m' IDS t ≡ cell m IDS t
   pub was_used : used m s ≡ true
+  pub spare : ending m' ≤ 2 * count m' + SPARE
 
-abbrev pub GoesFilters : Type 0
-GoesFilters =
-    (m : List ℕ) (k : ℕ) → Stands m →
-    (has (cards m) k ≡ false → gone m k ≡ refused m Missing)
-    × (has (cards m) k ≡ true → (s : ℕ) × ((gone m k).answer ≡ Ok s) × Gone m k s (gone m k).memory)
+unfoldable pub Goes : List ℕ → ℕ → Result ℕ Refusal → List ℕ → Type 0
+Goes m k r m' =
+    IsRow m →
+    (has (cards m) k ≡ false → (r ≡ Err Missing) × (m' ≡ m))
+    × (has (cards m) k ≡ true → (s : ℕ) × (r ≡ Ok s) × Gone m k s m')
 
-abbrev pub Finds : Type 0
-Finds =
-    (m : List ℕ) (k : ℕ) → Stands m →
-    (place_found m k ≡ cond (has (cards m) k) (Some (place (cards m) k)) None)
-    × (has (cards m) k ≡ false → found m k ≡ None)
-    × (has (cards m) k ≡ true → (s : ℕ) × (found m k ≡ Some s) × (used m s ≡ true) × (cell m ids s ≡ k))
+unfoldable pub Counts : List ℕ → ℕ → Type 0
+Counts m r = IsRow m → r ≡ length (cards m)
 
-abbrev pub Tells : Type 0
-Tells =
-    (m : List ℕ) (p n : ℕ) (out : List ℕ) → Stands m → p + n ≤ length (cards m) → n ≤ length out →
-    (told_count m p n out ≡ n) × (told m p n out ≡ take n (drop p (cards m)) ++ drop n out)
+unfoldable pub Finds : List ℕ → ℕ → Option ℕ → Type 0
+Finds m k r =
+    IsRow m →
+    (has (cards m) k ≡ false → r ≡ None)
+    × (has (cards m) k ≡ true → (s : ℕ) × (r ≡ Some s) × (used m s ≡ true) × (cell m IDS s ≡ k))
 
-abbrev pub by_slot : List ℕ → List Link → Board
-by_slot m ls = record { row = row_of m; links = ls }
+unfoldable pub FindsPlace : List ℕ → ℕ → Option ℕ → Type 0
+FindsPlace m k r = IsRow m → r ≡ cond (has (cards m) k) (Some (place (cards m) k)) None
 
-abbrev pub by_card : List ℕ → List Link → Board
-by_card m ls = record { row = cards m; links = map (named (cell m ids)) ls }
+unfoldable pub Places : List ℕ → ℕ → ℕ → Type 0
+Places m s r = IsRow m → used m s ≡ true → r ≡ place (row_of m) s
 
-abbrev pub SlotsNamed : Type 0
-SlotsNamed =
-    (m : List ℕ) (ls : List Link) → Stands m → every (λ l. used m l.from && used m l.to) ls ≡ true →
-    (by_card m ls ≡ renamed (cell m ids) (by_slot m ls)) × Naming (cell m ids) (used m) (by_slot m ls)
+unfoldable pub Orders : List ℕ → ℕ → ℕ → Type 0
+Orders m s r =
+    IsRow m → used m s ≡ true →
+    (t : ℕ) → used m t ≡ true → nat_lt r (cell m SEATS t) ≡ nat_lt (place (row_of m) s) (place (row_of m) t)
 
--- m' is m but for the columns of this crate
-pub record OnlyRow (m m' : List ℕ) : Type 0 where
-  pub as_long : length m' ≡ length m
-  pub others : (d : Column) (j : ℕ) → apart tally d ≡ true → apart ids d ≡ true → apart chain d ≡ true → apart slots d ≡ true → apart places d ≡ true →
-      cell m' d j ≡ cell m d j
-  pub tallies : (j : ℕ) → 2 ≤ j → cell m' tally j ≡ cell m tally j
+unfoldable pub Sits : List ℕ → ℕ → ℕ → Type 0
+Sits m p r = IsRow m → taken m p ≡ true → (used m r ≡ true) × (cell m SEATS r ≡ p)
 
-abbrev pub ElseStays : Type 0
-ElseStays = (m : List ℕ) (k : ℕ) → OnlyRow m (came m k).memory × OnlyRow m (gone m k).memory
+unfoldable pub Putting : List ℕ → ℕ → ℕ → List ℕ → Type 0
+Putting m p s m' =
+    IsRow m → taken m p ≡ true → s < CARDS →
+    (row_of m' ≡ slice_set (row_of m) (rank m p) s) × ((q : ℕ) → taken m' q ≡ taken m q) × ((q : ℕ) → rank m' q ≡ rank m q)
 
--- m and m' agree on the columns of this crate
-pub record SameRow (m m' : List ℕ) : Type 0 where
-  pub as_long : length m' ≡ length m
-  pub same_count : cell m' tally 0 ≡ cell m tally 0
-  pub same_fresh : cell m' tally 1 ≡ cell m tally 1
-  pub same_ids : (j : ℕ) → cell m' ids j ≡ cell m ids j
-  pub same_chain : (j : ℕ) → cell m' chain j ≡ cell m chain j
-  pub same_slots : (j : ℕ) → cell m' slots j ≡ cell m slots j
-  pub same_places : (j : ℕ) → cell m' places j ≡ cell m places j
+pub record Packed (m m' : List ℕ) : Type 0 where
+  pub is_row : IsRow m'
+  pub same_row : row_of m' ≡ row_of m
+  pub same_cards : cards m' ≡ cards m
+  pub same_used : (s : ℕ) → used m' s ≡ used m s
+  pub same_count : count m' ≡ count m
+  pub tight : ending m' ≡ count m'
+  pub full : (p : ℕ) → taken m' p ≡ nat_lt p (count m')
+  pub dense : row_of m' ≡ map (cell m' SLOTS) (range_with_len 0 (count m'))
+  pub seats_are : (s : ℕ) → used m' s ≡ true → cell m' SEATS s ≡ place (row_of m') s
 
-abbrev pub Depends : Type 0
-Depends =
-    (m m' : List ℕ) → SameRow m m' →
-    (Stands m → Stands m') × (cards m' ≡ cards m) × (row_of m' ≡ row_of m) × ((s : ℕ) → used m' s ≡ used m s)
+unfoldable pub Packs : List ℕ → List ℕ → Type 0
+Packs m m' = IsRow m → Packed m m'
+
+unfoldable pub Ranks : List ℕ → ℕ → ℕ → Type 0
+Ranks m p r = IsRow m → taken m p ≡ true → (r < length (row_of m)) × (slice_index (row_of m) r ≡ cell m SLOTS p)
+
+unfoldable pub Selects : List ℕ → ℕ → ℕ → Type 0
+Selects m n r =
+    IsRow m → n < length (row_of m) →
+    (taken m r ≡ true) × (rank m r ≡ n) × (slice_index (row_of m) n ≡ cell m SLOTS r)
+
+pub record Next (f : ℕ → Bool) (p q : ℕ) : Type 0 where
+  pub room : q ≤ SEATS_MOST
+  pub here : q < SEATS_MOST → f q ≡ true
+  pub first : (r : ℕ) → p ≤ r → r < q → f r ≡ false
+  pub from : q < SEATS_MOST → p ≤ q
+
+unfoldable pub Tells : List ℕ → ℕ → ℕ → List ℕ → ℕ → List ℕ → Type 0
+Tells m p n o r x = IsRow m → p + n ≤ length (cards m) → n ≤ length o → (r ≡ n) × (x ≡ take n (drop p (cards m)) ++ drop n o)

@@ -1,8 +1,7 @@
-pub mod Chains
-pub mod Layout
+pub mod Columns
 pub mod Lookup
-pub mod Walks
+pub mod Meaning
 pub mod Moves
 pub mod Telling
-pub mod Meaning
 pub mod Laws
+pub mod Theory

@@ -1,21 +1,22 @@
-// A row of cards in lent memory, and what is proved of it.
+// A row of cards with gaps in lent memory: who leaves it only gives up a seat, and nobody moves.
 #![tactic(auto)]
 
 mod cards;
-mod chains;
-mod laws;
 mod layout;
 mod lookup;
+mod marking;
+mod ranks;
+mod seating;
+mod slots;
 mod telling;
-mod walk;
+mod theory;
 
-pub use cards::{comes, goes, len, place_at, place_of, seat};
-pub use chains::{Entry, Family, spread};
-pub use laws::{
-    apart_stands, begins_stands, comes_appends_stands, depends_stands, else_stays_stands,
-    finds_stands, goes_filters_stands, slots_named_stands, tells_stands,
+pub use cards::{comes, goes, len, place_at, place_of};
+pub use layout::{
+    CHAIN, COUNT, ENDING, FREE, FRESH, HEADS, IDS, SEATS, SEATS_MOST, SLOTS, SPARE, TAKEN, WORDS,
 };
-pub use layout::{CHAINS, COUNT, FRESH, IDS, PLACES, SLOTS, TALLY};
 pub use lookup::find;
-pub use telling::tell;
-pub use walk::Walk;
+pub use ranks::rank;
+pub use seating::{pack, put_at, seat_of, slot_at};
+pub use telling::{next, select, tell};
+pub use theory::{apart_stands, begins_stands, columns_stand, depends_stands, slots_named_stands};

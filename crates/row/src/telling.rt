@@ -1,36 +1,103 @@
-// What is told of the row: cards from a place on.
-ghost use Rattle.std.specs.Prelude.{◌≡◌, ◌≤◌, ◌++◌, map, length, drop};
-ghost use Rattle.memory.specs.Columns.{cell};
-ghost use Rattle.row.specs.Layout.{ids};
-ghost use Rattle.row.specs.Telling.{told, told_count};
+// From a place to its seat, and what is told of the row.
+ghost use Rattle.std.specs.Prelude.{◌≡◌, ◌≤◌, ◌<◌, ◌%◌, ◌^◌, ◌+◌, count_ones};
+ghost use Rattle.row.specs.Meaning.{taken};
+ghost use Rattle.row.specs.Laws.{Next};
+ghost use Rattle.row.specs.Telling.{Between, NextIn, next_seat, selected, told, told_count};
 
-use crate::layout::{IDS, SLOTS};
+use crate::cards::len;
+use crate::layout::{IDS, SEATS_MOST, SLOTS, TAKEN, WORDS};
+use crate::marking::is_taken;
 use memory::Memory;
 use order::CARDS;
 
-// Writes the cards that the slots are of to the front of `out`.
-fn name_all(memory: &Memory, slots: &[u64], out: &mut [u64])
-    requires { length slots.now ≤ length out.old }
-    ensures { out.new ≡ map (cell memory.now ids) slots.now ++ drop (length slots.now) out.old }
+// The first taken seat from this one on, in its word.
+fn next_in(memory: &Memory, seat: u64) -> Option<u64>
+    ensures { NextIn (taken memory.now) seat result }
 {
-    for (i, slot) in slots.iter().enumerate() {
-        out[i] = IDS.get(memory, *slot);
+    let rest = TAKEN.get(memory, seat / 64) >> (seat % 64);
+    if rest == 0 {
+        return None;
+    }
+    Some(seat + rest.trailing_zeros() as u64)
+}
+
+// The first taken seat from this one on; the number of seats, if there is none.
+#[tactic(auto, using(crate::proofs::Firsts::next_is))]
+pub fn next(memory: &Memory, seat: u64) -> u64
+    ensures is { result ≡ next_seat memory.now seat }
+    ensures law { Next (taken memory.now) seat result }
+{
+    if is_taken(memory, seat) {
+        return seat;
+    }
+    let mut from = seat;
+    for word in seat / 64..WORDS {
+        if let Some(found) = next_in(memory, from) {
+            return found;
+        }
+        from = (word + 1) * 64;
+    }
+    SEATS_MOST
+}
+
+// One step of the search for a set bit of a word: it is among the `span` bits from `at` on, or the `span` behind these.
+fn half(bits: u64, wanted: u64, at: u64, span: u64) -> u64
+    requires { at + span < 64 }
+    ensures below { result ≤ at + span }
+    ensures law { Between bits wanted at (span + span) → Between bits wanted result span }
+{
+    let below = bits & ((1 << (at + span)) - 1);
+    if below.count_ones() as u64 <= wanted {
+        at + span
+    } else {
+        at
     }
 }
 
-// Tells the cards from `place` on, `n` of them, as the row's middle handed on: they are written to the front of `out`. Says how many: `n`, or none
-// if the row or `out` hasn't so many.
-#[tactic(auto, unfolding(crate::specs::Telling::told, crate::specs::Telling::told_count))]
+// The set bit of a word before which so many are set.
+fn nth_bit(bits: u64, wanted: u64) -> u64
+    ensures below { result < 64 }
+    ensures law { wanted < count_ones bits → Between bits wanted result 1 }
+{
+    let at = half(bits, wanted, 0, 32);
+    let at = half(bits, wanted, at, 16);
+    let at = half(bits, wanted, at, 8);
+    let at = half(bits, wanted, at, 4);
+    let at = half(bits, wanted, at, 2);
+    half(bits, wanted, at, 1)
+}
+
+// The taken seat that has so many taken ones before it; the number of seats, if there is none.
+pub fn select(memory: &Memory, place: u64) -> u64
+    ensures { result ≡ selected memory.now place }
+{
+    let mut before = 0;
+    for word in 0..WORDS {
+        let bits = TAKEN.get(memory, word);
+        let ones = bits.count_ones() as u64;
+        if place < before + ones {
+            return word * 64 + nth_bit(bits, place - before);
+        }
+        before += ones;
+    }
+    SEATS_MOST
+}
+
+// Tells the cards from `place` on, `n` of them: they are written to the front of `out`. Says how many: `n`, or none if the row or `out` hasn't so many.
+#[tactic(auto, using(crate::proofs::Steps::tellings), unfolding(crate::specs::Telling::told, crate::specs::Telling::told_count))]
 pub fn tell(memory: &Memory, place: u64, n: u64, out: &mut [u64]) -> u64
     ensures is { result ≡ told_count memory.now place n out.old }
     ensures out { out.new ≡ told memory.now place n out.old }
 {
-    let len = memory.len() as u64;
-    if place > CARDS || n > CARDS - place || len < SLOTS.base + CARDS || (out.len() as u64) < n {
+    let count = len(memory).min(CARDS);
+    if place > count || n > count - place || n > out.len() as u64 {
         return 0;
     }
-    let from = (SLOTS.base + place) as usize;
-    let to = (SLOTS.base + place + n) as usize;
-    name_all(memory, &memory[from..to], out);
+    let mut seat = select(memory, place);
+    for told in 0..n {
+        let found = next(memory, seat);
+        out[told as usize] = IDS.get(memory, SLOTS.get(memory, found));
+        seat = found + 1;
+    }
     n
 }
