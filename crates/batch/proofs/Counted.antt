@@ -7,14 +7,12 @@ use Rattle.command.specs.declared.command.Command.TheVariants.{Comes, Goes, Link
 use Rattle.order.specs.declared.board.Link.{Link}
 use Rattle.order.specs.declared.board.Refusal.TheVariants.{Cycle}
 use Rattle.memory.specs.Columns.{cell}
-use Rattle.row.specs.Layout.{tally, places}
+use Rattle.row.specs.declared.layout.TheConstants.{SEATS}
 use Rattle.row.specs.Moves.{came, gone, place_found}
 use Rattle.memory.proofs.Options.{given_holds}
-use Rattle.links.specs.Entries.{found as entry_found}
-use Rattle.links.specs.Entries.{live}
-use Rattle.links.specs.Entries.{removed}
+use Rattle.links.specs.Entries.{found as entry_found, live, removed}
 use Rattle.search.specs.Hunt.{meeting}
-use Rattle.keeper.specs.declared.layout.TheConstants.{TOLD}
+use Rattle.keeper.specs.declared.layout.TheConstants.{MORE_FROM, MORE_TO, TOLD}
 use Rattle.keeper.specs.declared.event.Event.{Event}
 use Rattle.keeper.specs.declared.event.Event.TheVariants.{Said, Next}
 use Rattle.keeper.specs.declared.event.Reason.{Reason}
@@ -61,7 +59,7 @@ quiet_finished false false = refl
 counted_on : (m : List ℕ) → Counted (went_on m)
 unfolding went_on
 counted_on m =
-    cond_both (eqb (pending m) 3) (told_part m (cell m tally 5) (cell m tally 6)) (quiet (finished m)) Counted (λ _. counted_told m (cell m tally 5) (cell m tally 6)) (λ _. quiet_finished (eqb (pending m) 1) (eqb (pending m) 2))
+    cond_both (eqb (pending m) 3) (told_part m (cell m MORE_FROM 0) (cell m MORE_TO 0)) (quiet (finished m)) Counted (λ _. counted_told m (cell m MORE_FROM 0) (cell m MORE_TO 0)) (λ _. quiet_finished (eqb (pending m) 1) (eqb (pending m) 2))
 
 counted_reordered : (m : List ℕ) (x : Link) → Counted (reordered m x)
 unfolding reordered moved shown_round
@@ -78,7 +76,7 @@ unfolding linked
 counted_linked m l =
     given_holds Any Counted (slots_found m l) _ _ tt refl (λ x _.
     given_holds Any Counted (entry_found m x) _ _ tt
-    (cond_both (eqb x.from x.to) _ _ Counted (λ _. refl) (λ _. cond_both (ltb (cell m places x.to) (cell m places x.from)) _ _ Counted (λ _. counted_reordered m x) (λ _. quiet_put m x)))
+    (cond_both (eqb x.from x.to) _ _ Counted (λ _. refl) (λ _. cond_both (ltb (cell m SEATS x.to) (cell m SEATS x.from)) _ _ Counted (λ _. counted_reordered m x) (λ _. quiet_put m x)))
     (λ _ _. refl))
 
 counted_said : (m : List ℕ) (c : Command) → Counted (command_said m c)

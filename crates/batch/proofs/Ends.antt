@@ -5,7 +5,7 @@ use Rattle.order.specs.declared.board.Link.{Link}
 use Rattle.command.specs.declared.command.Command.TheVariants.{Link as Links}
 use Rattle.order.specs.Lists.{has, place, distinct}
 use Rattle.order.specs.Board.{Board}
-use Rattle.order.specs.Reordering.{backward}
+use Rattle.order.specs.Reordering.{backward, link_must_be}
 use Rattle.command.specs.Commands.{must_be}
 use Rattle.order.proofs.Filters.{same_is}
 use Rattle.order.proofs.Little.{little_parts, place_by_front, place_by_rest}
@@ -35,7 +35,7 @@ module _ (lo hi : ℕ) where
   -- one link between the two places
   pub link_ends : (r : Board) (l : Link) (row : List ℕ) → must_be r (Links l) row ≡ true → lo ≤ place r.row l.to → place r.row l.from < hi →
       SameEnds lo hi row r.row
-  unfolding must_be
+  unfolding must_be link_must_be
   link_ends r l row m lower higher = elim (cases_Bool (backward r l.from l.to)) [
     | inl e ↦
         let p = little_parts r l.from l.to row (firm_is_little r l.from l.to row (rw e at m)) in

@@ -6,10 +6,9 @@ use Rattle.command.specs.declared.command.Command.TheVariants.{Link as Links}
 use Rattle.order.specs.Lists.{any, has, distinct}
 use Rattle.order.specs.Board.{Board, ◌⟶◌, linked, leads}
 use Rattle.command.specs.Commands.{must_be}
-use Rattle.order.specs.Reordering.{goes_round, follows, last_of}
+use Rattle.order.specs.Reordering.{goes_round, follows, last_of, link_must_be}
 use Rattle.memory.specs.Columns.{cell}
 use Rattle.row.specs.declared.layout.TheConstants.{IDS, SEATS}
-use Rattle.row.specs.Layout.{IDS, SEATS}
 use Rattle.row.specs.Meaning.{cards}
 use Rattle.order.proofs.Filters.{same_itself}
 use Rattle.order.proofs.Leading.{leads_just}
@@ -49,7 +48,7 @@ module _ (m : List ℕ) (R : Ready m) (o : once (edges m) ≡ true) (i : pending
   same = record { ready = R; single = o; idle = i; is = refl }
 
   room : live m < ENTRIES
-  room = omega (arith, (names m R).length_links_named, (counts m R.tabled).0)
+  room = omega (arith, (names m R).length_links_named, (counts m R.is_table).0)
 
   module _ (s t : ℕ) (A : Seated m l.from s) (B : Seated m l.to t) (ha : has (cards m) l.from ≡ true) (hb : has (cards m) l.to ≡ true)
       (n : any (same_link (s ⟶ t)) (edges m) ≡ false) where
@@ -90,7 +89,7 @@ module _ (m : List ℕ) (R : Ready m) (o : once (edges m) ≡ true) (i : pending
 
       -- the first stands first already
       ahead : cell m SEATS s ≤ cell m SEATS t → Either
-      unfolding must_be
+      unfolding must_be link_must_be
       ahead fw =
           let j = put_so fw in
           let z = no_round m R o i l sm s t A B ha hb n ne fw in
@@ -113,7 +112,7 @@ module _ (m : List ℕ) (R : Ready m) (o : once (edges m) ≡ true) (i : pending
 
         -- by what the search finds
         found : (y : Option Link) → (meeting m x).answer ≡ y → Found m m₁ s t y → Either
-        unfolding must_be joined_slots
+        unfolding must_be link_must_be joined_slots
         found (Some y) e T =
             let j = by_slots ∙ rw (lt-ltb _ _ w, e) refl in
             let ld : leads r l.to l.from ≡ true = leads_is m R l.from l.to s t A B ∙ T.round in

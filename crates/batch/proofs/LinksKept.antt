@@ -12,7 +12,8 @@ use Rattle.command.specs.Commands.{told_rows}
 use Rattle.order.proofs.Climbs.{fine_parts}
 use Rattle.links.specs.declared.layout.TheConstants.{ENTRIES}
 use Rattle.links.specs.Entries.{live}
-use Rattle.links.proofs.Operating.{counts}
+use Rattle.row.specs.Moves.{packed}
+use Rattle.links.proofs.Counting.{counts}
 use Rattle.keeper.specs.Engine.{Ran}
 use Rattle.keeper.specs.Answers.{Answer, quiet, refuses, leaves_pending}
 use Rattle.keeper.specs.Sister.{within}
@@ -24,6 +25,7 @@ use Rattle.keeper.proofs.Noting.{settles}
 use Rattle.keeper.proofs.ToldRuns.{from_first}
 use Rattle.batch.specs.declared.layout.TheConstants.{BATCH}
 use Rattle.batch.specs.declared.seating.Span.{Span}
+use Rattle.batch.specs.Dense.{Dense}
 use Rattle.batch.specs.Several.{all_there, with_links, said_before, closes, several_refusal, Becomes, past_named}
 use Rattle.batch.specs.SeveralLaws.{Between}
 use Rattle.batch.specs.Checking.{span}
@@ -38,6 +40,7 @@ use Rattle.batch.specs.Own.{answer, own}
 use Rattle.batch.proofs.CardsThere.{finds_all}
 use Rattle.batch.proofs.Repeating.{repeats}
 use Rattle.batch.proofs.Spanning.{span_moves}
+use Rattle.batch.proofs.PackedMeans.{packed_long, packed_means, packed_row}
 use Rattle.batch.proofs.SavedMeans.{tries_saved}
 use Rattle.batch.proofs.Undoing.{undoes_all, undoes_stopped, undoes_none}
 use Rattle.batch.proofs.SeveralBetween.{several_between}
@@ -85,11 +88,24 @@ module _ (m : List ℕ) (r : Board) (ls : List Link) (long : length m ≡ MEMORY
 
   -- tried
   module _ (few : leb (length ls) BATCH ≡ true) (there : all_there r ls ≡ true) (fresh : said_before r ls ≡ false) where
+    -- from the row packed on
+    abbrev p : List ℕ
+    p = packed m
+
+    P : Means p r
+    P = packed_means m r M
+
+    D : Dense p
+    D = packed_row m r M
+
+    long_p : length p ≡ MEMORY
+    long_p = packed_long m ∙ long
+
     abbrev o : Option Span
-    o = span m ls
+    o = span p ls
 
     abbrev m₀ : List ℕ
-    m₀ = part_aside m o
+    m₀ = part_aside p o
 
     abbrev t : Tried
     t = tried m₀ ls 0
@@ -103,41 +119,41 @@ module _ (m : List ℕ) (r : Board) (ls : List Link) (long : length m ≡ MEMORY
 
     -- the part of the row, if it has to change
     kept_none : o ≡ None → keeps r.row (r.links ++ ls) ≡ true
-    kept_none e = let b = rw e at (span_moves m r ls M there).0 in grind arith
+    kept_none e = let b = rw e at (span_moves p r ls P D there).0 in grind arith
 
     kept_not : (s : Span) → o ≡ Some s → keeps r.row (r.links ++ ls) ≡ false
-    kept_not s e = let b = rw e at (span_moves m r ls M there).0 in grind arith
+    kept_not s e = let b = rw e at (span_moves p r ls P D there).0 in grind arith
 
     part : (s : Span) → o ≡ Some s → Names r ls s
-    part = (span_moves m r ls M there).1
+    part = (span_moves p r ls P D there).1
 
     covers : (s : Span) → o ≡ Some s → Covers s r ls
     covers s e =
-        let p = part s e in record { lower = omega (arith, p.0); higher = omega (arith, p.1); within = omega (arith, p.1, p.3) }
+        let w = part s e in record { lower = omega (arith, w.0); higher = omega (arith, w.1); within = omega (arith, w.1, w.3) }
 
-    tried_so : (o₁ : Option Span) → (closes r ls ≡ false → AllIn (part_aside m o₁) r ls) × (closes r ls ≡ true → Stopped (part_aside m o₁) r ls)
+    tried_so : (o₁ : Option Span) → (closes r ls ≡ false → AllIn (part_aside p o₁) r ls) × (closes r ls ≡ true → Stopped (part_aside p o₁) r ls)
     unfolding part_aside
-    tried_so None = tries m r ls M small there fresh room
-    tried_so (Some s) = tries_saved m r ls _ _ M small there fresh room
+    tried_so None = tries p r ls P small there fresh room
+    tried_so (Some s) = tries_saved p r ls _ _ P small there fresh room
 
     either : (closes r ls ≡ false → AllIn m₀ r ls) × (closes r ls ≡ true → Stopped m₀ r ls)
     either = tried_so o
 
     -- links that were put in are taken out again
-    undone_stopped : (o₁ : Option Span) → o ≡ o₁ → closes r ls ≡ true → Stopped (part_aside m o₁) r ls →
-        Means (undone (tried (part_aside m o₁) ls 0).memory (take (tried (part_aside m o₁) ls 0).count ls) o₁) r
+    undone_stopped : (o₁ : Option Span) → o ≡ o₁ → closes r ls ≡ true → Stopped (part_aside p o₁) r ls →
+        Means (undone (tried (part_aside p o₁) ls 0).memory (take (tried (part_aside p o₁) ls 0).count ls) o₁) r
     unfolding part_aside
     undone_stopped None e round S = absurd ((several_round r ls (means_fine m r M) there round).1 r.row (kept_none e))
-    undone_stopped (Some s) e round S = undoes_stopped m r ls s M small there long (covers s e) S
+    undone_stopped (Some s) e round S = undoes_stopped p r ls s P D small there long_p (covers s e) S
 
     means_more : (m₁ : List ℕ) → keeps r.row (r.links ++ ls) ≡ true → (A : AllIn m₁ r ls) → Means (tried m₁ ls 0).memory (with_links r ls)
     means_more m₁ k A =
         subst (λ (xs : List ℕ). Means (tried m₁ ls 0).memory (record { row = xs; links = r.links ++ ls })) (several_kept r ls A.row k A.becomes) A.means
 
-    undone_all : (o₁ : Option Span) → o ≡ o₁ → AllIn (part_aside m o₁) r ls → Means (undone (tried (part_aside m o₁) ls 0).memory ls o₁) r
+    undone_all : (o₁ : Option Span) → o ≡ o₁ → AllIn (part_aside p o₁) r ls → Means (undone (tried (part_aside p o₁) ls 0).memory ls o₁) r
     unfolding part_aside
-    undone_all None e A = undoes_none _ r ls None small (λ s z. absurd (cc)) (means_more m (kept_none e) A)
-    undone_all (Some s) e A = undoes_all m r ls s M small there long (covers s e) A
+    undone_all None e A = undoes_none _ r ls None small (λ s z. absurd (cc)) (means_more p (kept_none e) A)
+    undone_all (Some s) e A = undoes_all p r ls s P D small there long_p (covers s e) A
 
     -- links that go round
     module _ (round : closes r ls ≡ true) where
@@ -175,7 +191,7 @@ module _ (m : List ℕ) (r : Board) (ls : List Link) (long : length m ≡ MEMORY
       counted : live t.memory ≡ length r.links + length ls
       counted =
           let N = A.means in
-          (counts t.memory N.ready.tabled).0 ∙ sym (names t.memory N.ready).length_links_named
+          (counts t.memory N.ready.is_table).0 ∙ sym (names t.memory N.ready).length_links_named
           ∙ ap (λ (b : Board). length b.links) (sym N.is) ∙ length-append r.links ls
 
       abbrev brings : said_several m ls ≡ brought t.memory ls o
@@ -213,17 +229,17 @@ module _ (m : List ℕ) (r : Board) (ls : List Link) (long : length m ≡ MEMORY
 
         told : (s : Span) → o ≡ Some s → ToldSo t.memory (record { row = row; links = r.links ++ ls }) s
         told s b =
-            let p = part s b in
-            span_told t.memory (record { row = row; links = r.links ++ ls }) A.means s (omega (arith, p.0, p.1, p.2))
-            (omega (arith, p.1, p.3, B.as_long))
+            let w = part s b in
+            span_told t.memory (record { row = row; links = r.links ++ ls }) A.means s (omega (arith, w.0, w.1, w.2))
+            (omega (arith, w.1, w.3, B.as_long))
 
         moved : (s : Span) → o ≡ Some s → StepKept own 3 m r (several ls)
         unfolding Done
         moved s b =
-            let p = part s b in
+            let w = part s b in
             let e = brings ∙ ap (brought t.memory ls) b ∙ brought_told t.memory ls s (omega (arith, counted)) in
             let T = told s b in
-            let n = T.makes r.row (rw (p.0, p.1) (record { long = sym B.as_long; front = sym B.front; rest = sym B.rest })) in
+            let n = T.makes r.row (rw (w.0, w.1) (record { long = sym B.as_long; front = sym B.front; rest = sym B.rest })) in
             done_so m r ls _ (run_is _ e ∙ T.run) allowed (
               refl,
               refl,
@@ -231,8 +247,8 @@ module _ (m : List ℕ) (r : Board) (ls : List Link) (long : length m ≡ MEMORY
               rw n (fine_parts _ B.fine_so).kept,
               (
                 (λ k. absurd (both_ways _ (kept_not s b) k)),
-                subst (λ (i : ℕ). every (within i (past_named r ls)) T.parts ≡ true) p.0
-                    (subst (λ (j : ℕ). every (within s.low j) T.parts ≡ true) p.1 T.inside),
+                subst (λ (i : ℕ). every (within i (past_named r ls)) T.parts ≡ true) w.0
+                    (subst (λ (j : ℕ). every (within s.low j) T.parts ≡ true) w.1 T.inside),
               ),
             )
             (record { means = rw n T.means; few = fits_in })

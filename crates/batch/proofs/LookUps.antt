@@ -4,11 +4,12 @@ use Rattle.std.proofs.lemmas.Bool.{cases_Bool}
 use Rattle.order.specs.declared.board.Link.{Link}
 use Rattle.order.specs.Lists.{has}
 use Rattle.order.specs.Board.{◌⟶◌}
-use Rattle.row.specs.Meaning.{cards, Stands}
+use Rattle.row.specs.Meaning.{cards, IsRow}
 use Rattle.row.proofs.Present.{finds}
 use Rattle.keeper.specs.Linking.{slots_found}
 use Rattle.memory.specs.Columns.{cell}
-use Rattle.row.specs.Layout.{ids, chain}
+use Rattle.order.specs.declared.board.TheConstants.{CARDS}
+use Rattle.row.specs.declared.layout.TheConstants.{HEADS, IDS, CHAIN}
 use Rattle.row.specs.Lookup.{bucket, followed, sought, found}
 use Rattle.memory.specs.Options.{given}
 
@@ -16,7 +17,7 @@ given_same : {X Y : Type 0} (o : Option X) (z : Y) (f g : X → Y) → ((x : X) 
 given_same None z f g h = refl
 given_same (Some x) z f g h = h x
 
-module _ (m m' : List ℕ) (i : (j : ℕ) → cell m' ids j ≡ cell m ids j) (x : (j : ℕ) → cell m' chain j ≡ cell m chain j) where
+module _ (m m' : List ℕ) (i : (j : ℕ) → cell m' IDS j ≡ cell m IDS j) (x : (j : ℕ) → cell m' CHAIN j ≡ cell m CHAIN j) where
   followed_alike : (p : ℕ) → followed m' p ≡ followed m p
   unfolding followed
   followed_alike p = rw (x p)
@@ -25,17 +26,17 @@ module _ (m m' : List ℕ) (i : (j : ℕ) → cell m' ids j ≡ cell m ids j) (x
   unfolding sought
   sought_alike zero p k = refl
   sought_alike (suc f) p k =
-      rw (followed_alike p) (given_same (followed m p) None _ _ (λ s. rw (i s, sought_alike f (8192 + s) k)))
+      rw (followed_alike p) (given_same (followed m p) None _ _ (λ s. rw (i s, sought_alike f (HEADS + s) k)))
 
   pub found_alike : (k : ℕ) → found m' k ≡ found m k
   unfolding found
-  found_alike k = rw (sought_alike 8192 (bucket k) k)
+  found_alike k = rw (sought_alike CARDS (bucket k) k)
 
 -- whether the cards of a link are found
-found_there : (m : List ℕ) → Stands m → (k : ℕ) → is_some (found m k) ≡ has (cards m) k
+found_there : (m : List ℕ) → IsRow m → (k : ℕ) → is_some (found m k) ≡ has (cards m) k
 found_there m S k = elim (cases_Bool (has (cards m) k)) [
-  | inl h ↦ ap is_some ((finds m k S).2 h).1 ∙ sym h
-  | inr h ↦ ap is_some ((finds m k S).1 h) ∙ sym h
+  | inl h ↦ ap is_some ((finds m k S).1 h).1 ∙ sym h
+  | inr h ↦ ap is_some ((finds m k S).0 h) ∙ sym h
 ]
 
 both_some : (o p : Option ℕ) → is_some (given o None (λ a. given p None (λ b. Some (a ⟶ b)))) ≡ (is_some o && is_some p)
@@ -43,6 +44,6 @@ both_some None p = refl
 both_some (Some a) None = refl
 both_some (Some a) (Some b) = refl
 
-pub slots_there : (m : List ℕ) → Stands m → (l : Link) → is_some (slots_found m l) ≡ (has (cards m) l.from && has (cards m) l.to)
+pub slots_there : (m : List ℕ) → IsRow m → (l : Link) → is_some (slots_found m l) ≡ (has (cards m) l.from && has (cards m) l.to)
 unfolding slots_found
 slots_there m S l = both_some (found m l.from) (found m l.to) ∙ ap₂ ◌&&◌ (found_there m S l.from) (found_there m S l.to)

@@ -8,6 +8,7 @@ use Rattle.command.specs.declared.command.Command.TheVariants.{Comes, Goes, Link
 use Rattle.order.specs.declared.board.Refusal.TheVariants.{Missing, Exists, Cycle, Full}
 use Rattle.order.specs.Lists.{has, filter}
 use Rattle.order.specs.Board.{Board, ◌⟶◌, linked, leads}
+use Rattle.order.specs.Reordering.{link_refusal}
 use Rattle.command.specs.Commands.{refusal, links_after}
 use Rattle.keeper.specs.Promise.{all_small, Refused as KeeperRefused, small_command}
 use Rattle.keeper.specs.Sister.{DoneFirm}
@@ -28,7 +29,7 @@ room : (w x y z : Bool) → cond w (cond x (Some Exists) (cond y (Some Cycle) (c
 room w x y z e = grind arith
 
 few_after : (r : Board) (c : Command) → refusal r c ≡ None → length r.links ≤ LINKS → length (links_after r c) ≤ LINKS
-unfolding refusal links_after
+unfolding refusal link_refusal links_after
 few_after r (Comes k) z h = h
 few_after r (Goes k) z h = rest_few _ r.links h
 few_after r (Links l) z h =

@@ -5,8 +5,8 @@ use Rattle.order.specs.declared.board.Link.{Link}
 use Rattle.command.specs.declared.command.Command.TheVariants.{Link as Links}
 use Rattle.order.specs.Lists.{every, has, place, distinct}
 use Rattle.order.specs.Board.{Board, keeps, fine}
-use Rattle.order.specs.Reordering.{with_link, backward}
-use Rattle.command.specs.Commands.{must_be}
+use Rattle.order.specs.Reordering.{with_link, backward, link_must_be}
+use Rattle.command.specs.Commands.{may_be, must_be}
 use Rattle.order.proofs.Filters.{every_append, same_itself}
 use Rattle.order.proofs.Climbs.{fine_parts, link_before}
 use Rattle.order.proofs.Allowed.{Open, forward_kept, keeps_more}
@@ -25,13 +25,14 @@ kept_link row ks l ls ke =
 module _ (r : Board) (fi : fine r ≡ true) (l : Link) where
   pub can_link : Open r l.from l.to →
       (row : List ℕ) × (must_be r (Links l) row ≡ true) × (keeps row (with_link r l.from l.to) ≡ true)
-  unfolding must_be
+  unfolding must_be link_must_be
   can_link o = let f = fine_parts r fi in elim (cases_Bool (backward r l.from l.to)) [
     | inl e ↦ let b = ltb-true _ _ e in (firm_row r f _ _ o b, rw e (firm_is r f _ _ o b), firm_keeps r f _ _ o b)
     | inr e ↦ (r.row, rw e (same_itself r.row), keeps_more r f _ _ o r.row (λ x y k. link_before r f x y k) (forward_kept r f _ _ o e))
   ]
 
   pub cards_stay : (row : List ℕ) → must_be r (Links l) row ≡ true → (distinct row ≡ true) × ((k : ℕ) → has row k ≡ has r.row k)
+  unfolding may_be
   cards_stay row m = link_has r (fine_parts r fi) l.from l.to row (must_may r (Links l) row m)
 
   pub fine_after : (has r.row l.from ≡ true) × (has r.row l.to ≡ true) → (row : List ℕ) → must_be r (Links l) row ≡ true →

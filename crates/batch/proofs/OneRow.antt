@@ -5,7 +5,7 @@ use Rattle.order.specs.declared.board.Link.{Link}
 use Rattle.command.specs.declared.command.Command.TheVariants.{Link as Links}
 use Rattle.order.specs.Lists.{filter}
 use Rattle.order.specs.Board.{Board, ◌⟶◌, keeps, fine, leads}
-use Rattle.order.specs.Reordering.{with_link, backward, touched, firm}
+use Rattle.order.specs.Reordering.{with_link, backward, touched, firm, link_must_be}
 use Rattle.command.specs.Commands.{must_be}
 use Rattle.order.proofs.Filters.{same_is}
 use Rattle.order.proofs.Climbs.{fine_parts}
@@ -48,7 +48,7 @@ module _ (r : Board) (fi : fine r ≡ true) (a b : ℕ) (o : Open r a b) where
 pub one_row : (r : Board) (l : Link) (row row₁ : List ℕ) → fine r ≡ true → Open r l.from l.to →
     must_be r (Links l) row ≡ true → keeps row (with_link r l.from l.to) ≡ true →
     must_be r (Links l) row₁ ≡ true → keeps row₁ (with_link r l.from l.to) ≡ true → row ≡ row₁
-unfolding must_be
+unfolding must_be link_must_be
 one_row r l row row₁ fi o m ke m₁ ke₁ = elim (cases_Bool (backward r l.from l.to)) [
   | inl e ↦ one_firm r fi l.from l.to o row row₁ (rw e at m) ke (rw e at m₁) ke₁
   | inr e ↦ same_is row r.row (rw e at m) ∙ sym (same_is row₁ r.row (rw e at m₁))

@@ -7,6 +7,7 @@ use Rattle.memory.specs.declared.column.TheConstants.{MEMORY}
 use Rattle.command.specs.declared.command.Command.TheVariants.{Comes, Goes, Link as Links, Unlink as Unlinks, Places}
 use Rattle.order.specs.declared.board.Refusal.TheVariants.{Cycle}
 use Rattle.order.specs.Board.{Board}
+use Rattle.order.specs.Reordering.{link_refusal}
 use Rattle.command.specs.Commands.{refusal, Told}
 use Rattle.keeper.specs.declared.layout.TheConstants.{OUTPUT, TOLD}
 use Rattle.keeper.specs.declared.event.Act.{Act}
@@ -91,7 +92,7 @@ done_shows r anew ts row p h t = h.none refl
 
 -- only of links it may be said that they would go round, and then one way is shown
 one_way : (r : Board) (s : Saying) (ss : List (List ℕ)) → refused_for r s ≡ Some Cycle → RoundSo r s ss → (ks : List ℕ) × (ss ≡ ks ∷ [])
-unfolding refusal RoundShown
+unfolding refusal link_refusal RoundShown
 one_way r (one (Comes k)) ss z w = absurd (grind arith)
 one_way r (one (Goes k)) ss z w = absurd (grind arith)
 one_way r (one (Links l)) ss z w = (w.0, w.1)

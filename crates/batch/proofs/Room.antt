@@ -5,7 +5,7 @@ use Rattle.std.proofs.lemmas.Bool.{cond_both}
 use Rattle.order.specs.declared.board.TheConstants.{CARDS, LINKS}
 use Rattle.order.specs.declared.board.Link.{Link}
 use Rattle.memory.specs.Columns.{cell}
-use Rattle.row.specs.Layout.{ids, places}
+use Rattle.row.specs.declared.layout.TheConstants.{IDS, SEATS}
 use Rattle.memory.proofs.Options.{given_holds}
 use Rattle.links.specs.Entries.{live}
 use Rattle.search.specs.declared.layout.TheConstants.{VIA}
@@ -39,10 +39,10 @@ FewJoined j = FewWay j.way
 few_slots : (m : List ℕ) (x : Link) → FewWay (joined_slots m x).way
 unfolding joined_slots round_cards
 few_slots m x =
-    cond_both (ltb (cell m places x.to) (cell m places x.from)) _ _ FewJoined
+    cond_both (ltb (cell m SEATS x.to) (cell m SEATS x.from)) _ _ FewJoined
     (λ _. given_holds Any FewJoined (meeting m x).answer _ _ tt tt (λ y _.
     let n = (meeting m x).memory in
-    omega (arith, length-map (way (cell n via) CARDS x y) (cell n ids), way_few (cell n via) CARDS x y)))
+    omega (arith, length-map (way (cell n VIA) CARDS x y) (cell n IDS), way_few (cell n VIA) CARDS x y)))
     (λ _. tt)
 
 few_joined : (m : List ℕ) (l : Link) → FewWay (joined m l).way

@@ -4,7 +4,7 @@ use Rattle.std.proofs.lemmas.Bool.{le-ltb}
 use Rattle.order.specs.declared.board.Link.{Link}
 use Rattle.command.specs.declared.command.Command.TheVariants.{Link as Links}
 use Rattle.order.specs.Board.{Board, keeps}
-use Rattle.order.specs.Reordering.{backward}
+use Rattle.order.specs.Reordering.{backward, link_must_be}
 use Rattle.command.specs.Commands.{must_be}
 use Rattle.order.proofs.Filters.{same_is}
 use Rattle.batch.specs.Several.{linked_on, Becomes}
@@ -13,7 +13,7 @@ use Rattle.batch.proofs.OneLink.{kept_link}
 
 -- a link that the row keeps doesn't go backward, and so the row has to stay
 kept_row : (r : Board) (l : Link) (ls : List Link) (mid : List ℕ) → keeps r.row (r.links ++ l ∷ ls) ≡ true → must_be r (Links l) mid ≡ true → mid ≡ r.row
-unfolding must_be
+unfolding must_be link_must_be
 kept_row r l ls mid ke m =
     let n : backward r l.from l.to ≡ false = le-ltb _ _ (omega (arith, kept_link r.row r.links l ls ke)) in
     same_is mid r.row (rw n at m)

@@ -8,22 +8,25 @@ use Rattle.order.specs.Lists.{every, any, filter}
 use Rattle.order.specs.Board.{Board, ◌⟶◌, linked}
 use Rattle.order.specs.Renaming.{named}
 use Rattle.memory.specs.Columns.{cell}
-use Rattle.row.specs.Layout.{ids}
-use Rattle.row.specs.Meaning.{used}
+use Rattle.memory.specs.Footprints.{Writes}
+use Rattle.memory.proofs.Footprints.{kept}
+use Rattle.row.specs.declared.layout.TheConstants.{IDS}
+use Rattle.row.specs.Columns.{columns as row}
+use Rattle.row.specs.Meaning.{used, RowIn}
 use Rattle.order.proofs.Climbs.{fine_parts, link_ends}
-use Rattle.row.proofs.Depending.{depends}
 use Rattle.order.proofs.RenamesLinks.{Known, joins_map}
 use Rattle.links.specs.Pairs.{joins}
 use Rattle.links.specs.Entries.{removed}
-use Rattle.links.specs.Table.{edges, once}
-use Rattle.links.proofs.Operating.{stays_once}
-use Rattle.links.proofs.Bounding.{writes_only}
+use Rattle.links.specs.Table.{columns as table, edges, once}
+use Rattle.links.specs.Laws.{StaysOnce}
+use Rattle.links.proofs.Standing.{stays_once}
+use Rattle.links.proofs.Writing.{removed_writes}
 use Rattle.search.specs.Meaning.{Ready}
+use Rattle.keeper.specs.declared.layout.TheConstants.{PENDING}
 use Rattle.keeper.specs.Promise.{small_command}
 use Rattle.keeper.specs.Answers.{pending}
 use Rattle.keeper.specs.Meaning.{card_board, Means}
 use Rattle.keeper.proofs.Knowing.{fine_cards, naming, ends_used}
-use Rattle.keeper.proofs.Carrying.{links_same, links_unmarked, ready_again}
 use Rattle.keeper.proofs.TwoCards.{Seated, has_row, seated, slots_there, linked_is}
 use Rattle.keeper.proofs.Unlinking.{law, fine_after, board_after}
 use Rattle.batch.specs.Several.{with_links}
@@ -31,6 +34,7 @@ use Rattle.batch.specs.Joining.{dropped, taken_out}
 use Rattle.batch.specs.UndoLaws.{TakesOut}
 use Rattle.batch.proofs.Anys.{any_append}
 use Rattle.batch.proofs.Tries.{small_parts}
+use Rattle.batch.proofs.ReadyAgain.{ready_on}
 
 -- a link that is there once, taken out of a list
 none_out : (x : Link) (xs : List Link) → any (joins x) xs ≡ false → filter (λ y. not (joins x y)) xs ≡ xs
@@ -63,7 +67,7 @@ once_named f D tell (x ∷ xs) h =
 once_cards : (m : List ℕ) (r : Board) → Means m r → once r.links ≡ true
 once_cards m r M =
     let R = M.ready in
-    ap (λ (b : Board). once b.links) M.is ∙ once_named (cell m ids) (used m) (naming m R).tell (edges m) (ends_used m R) ∙ M.single
+    ap (λ (b : Board). once b.links) M.is ∙ once_named (cell m IDS) (used m) (naming m R).tell (edges m) (ends_used m R) ∙ M.single
 
 -- one link
 abbrev without : Board → Link → Board
@@ -72,17 +76,17 @@ without r l = record { row = r.row; links = filter (λ y. not (joins l y)) r.lin
 module _ (m : List ℕ) (R : Ready m) (o : once (edges m) ≡ true) (i : pending m ≡ 0) (l : Link) (sm : small_command (Unlinks l) ≡ true)
     (h : linked (card_board m) l.from l.to ≡ true) where
   by_slots : (s t : ℕ) → Seated m l.from s → Seated m l.to t → Means (dropped m l) (without (card_board m) l)
-  unfolding dropped
+  unfolding dropped StaysOnce
   by_slots s t A B =
       let x = s ⟶ t in
       let m' = (removed m x).memory in
-      let only = (writes_only m).1 x in
+      let w : Writes table m m' = removed_writes m x in
       let k = sym (linked_is m R l.from l.to s t A B) ∙ h in
       let e = law m R o i l sm s t A B in
       rw (slots_there m R l s t A B) (record {
-        ready = ready_again m m' R (links_unmarked m m' only) ((depends m m' (links_same m m' only)).0 R.stands) e.0 (fine_after m R o i l sm s t A B k);
+        ready = ready_on table m m' w refl refl R (kept table row refl m m' w RowIn R.is_row) e.0 (fine_after m R o i l sm s t A B k);
         single = ap once e.1 ∙ stays_once.2 _ (edges m) o;
-        idle = only.tallies 4 (λ z. omega arith) (λ z. omega arith) ∙ i;
+        idle = w.others PENDING 0 refl ∙ i;
         is = board_after m R o i l sm s t A B k;
       })
 

@@ -7,26 +7,29 @@ use Rattle.order.specs.declared.board.Link.{Link}
 use Rattle.command.specs.declared.command.Command.TheVariants.{Link as Links}
 use Rattle.order.specs.Lists.{every}
 use Rattle.order.specs.Board.{Board}
-use Rattle.row.specs.Layout.{ids, chain}
+use Rattle.memory.specs.Footprints.{Writes, at_each}
+use Rattle.memory.proofs.Footprints.{less, after}
+use Rattle.row.specs.declared.layout.TheConstants.{IDS, CHAIN}
+use Rattle.links.specs.Table.{columns as table}
 use Rattle.keeper.specs.Promise.{small_command}
 use Rattle.keeper.specs.Meaning.{Means}
 use Rattle.batch.specs.declared.seating.Span.{Span}
-use Rattle.batch.specs.Layout.{spare}
+use Rattle.batch.specs.declared.layout.TheConstants.{SPARE}
+use Rattle.batch.specs.Dense.{Dense}
 use Rattle.batch.specs.Several.{all_there, Becomes, first_named, past_named}
 use Rattle.batch.specs.Joining.{tried, taken_out}
 use Rattle.batch.specs.JoinLaws.{AllIn, Stopped}
 use Rattle.batch.specs.Seating.{reseated}
 use Rattle.batch.specs.Saying.{undone}
 use Rattle.batch.specs.UndoLaws.{put_aside, Covers, Undoes, UndoesNone}
-use Rattle.batch.proofs.Saving.{saves, saves_only}
+use Rattle.batch.proofs.Saving.{saves, saved_writes}
+use Rattle.batch.proofs.Dense.{few_count, dense_kept}
 use Rattle.batch.proofs.Tries.{means_fine}
 use Rattle.batch.proofs.SeveralBetween.{several_between}
 use Rattle.batch.proofs.Ends.{SameEnds, ends_within}
-use Rattle.batch.proofs.Beside.{beside_on}
-use Rattle.batch.proofs.TriedFrames.{Else, Spared, spared_tried, spared_taken_out}
+use Rattle.batch.proofs.TriedFrames.{tried_columns, Trying, tried_writes, taken_out_writes}
 use Rattle.batch.proofs.TakingOut.{takes_out}
 use Rattle.batch.proofs.SeatedBack.{row_count, Aside, seated_back}
-use Rattle.batch.specs.Listing.{at_each}
 
 first_within : (r : Board) (ls : List Link) → first_named r ls ≤ length r.row
 unfolding first_named
@@ -34,7 +37,7 @@ first_within r [] = omega arith
 first_within r (l ∷ ls) = omega (arith, first_within r ls)
 
 -- the links that were put in are ks
-module _ (m : List ℕ) (r : Board) (ls ks : List Link) (s : Span) (row : List ℕ) (M : Means m r) (sm : every (λ l. small_command (Links l)) ks ≡ true)
+module _ (m : List ℕ) (r : Board) (ls ks : List Link) (s : Span) (row : List ℕ) (M : Means m r) (D : Dense m) (sm : every (λ l. small_command (Links l)) ks ≡ true)
     (t : all_there r ks ≡ true) (long : length m ≡ MEMORY) (C : Covers s r ks) (b : Becomes r ks row) where
   abbrev lo : ℕ
   lo = s.low
@@ -52,7 +55,7 @@ module _ (m : List ℕ) (r : Board) (ls ks : List Link) (s : Span) (row : List �
   m₃ = taken_out m₂ ks
 
   room : length r.row ≤ CARDS
-  room = let S = M.ready.stands.stands in omega (arith, row_count m r M, S.few, S.room)
+  room = omega (arith, row_count m r M D, few_count m D)
 
   few : lo + size ≤ length r.row
   few = omega (arith, C.lower, first_within r ks, C.within)
@@ -62,26 +65,31 @@ module _ (m : List ℕ) (r : Board) (ls ks : List Link) (s : Span) (row : List �
       let B = several_between r ks row (means_fine m r M) t b in
       ends_within lo (lo + size) (first_named r ks) (past_named r ks) row r.row C.lower (omega (arith, C.higher, C.within, room)) B.front B.rest
 
-  -- what stays as it was, while links are tried and taken out
-  spared : Spared m₁ m₃
-  spared = beside_on Else m₁ m₂ m₃ (spared_tried m₁ ls 0) (spared_taken_out m₂ ks)
+  -- what is written, while links are tried and taken out
+  tried_frame : Trying m₁ m₃
+  tried_frame = after tried_columns table m₁ m₂ m₃ refl (taken_out_writes m₂ ks) (tried_writes m₁ ls 0)
 
-  aside : Aside m m₃ lo size
-  aside =
-      let o = (saves_only m lo size).0 in
-      record {
-        same_ids = λ j. spared.others ids j (refl, refl, refl, refl, refl, refl, refl) ∙ o.others ids j refl;
-        same_chain = λ j. spared.others chain j (refl, refl, refl, refl, refl, refl, refl) ∙ o.others chain j refl;
-        aside = λ p l u.
-            spared.others spare p (refl, refl, refl, refl, refl, refl, refl)
-            ∙ (saves m lo size (omega arith)).0 p l u (omega (arith, few, room));
-      }
+  frame : Writes (SPARE ∷ tried_columns) m m₃
+  frame =
+      after (SPARE ∷ tried_columns) tried_columns m m₁ m₃ refl tried_frame
+      (less (SPARE ∷ tried_columns) (SPARE ∷ []) m m₁ refl (saved_writes m lo size))
 
-  pub undone_so : Means m₂ (record { row = row; links = r.links ++ ks }) → Means (undone m₂ ks (Some s)) r
-  unfolding undone
-  undone_so M₂ =
-      seated_back m m₃ r row lo size M (takes_out m₂ (record { row = row; links = r.links }) ks sm M₂) aside few ends
-      (several_between r ks row (means_fine m r M) t b).same_cards
+  module _ (M₂ : Means m₂ (record { row = row; links = r.links ++ ks })) where
+    M₃ : Means m₃ (record { row = row; links = r.links })
+    M₃ = takes_out m₂ (record { row = row; links = r.links }) ks sm M₂
+
+    aside : Aside m m₃ lo size
+    aside = record {
+      dense = D;
+      dense_since = dense_kept (SPARE ∷ tried_columns) m m₃ refl refl refl frame M₃.ready.is_row D;
+      same_ids = λ j. frame.others IDS j refl;
+      same_chain = λ j. frame.others CHAIN j refl;
+      aside = λ p l u. tried_frame.others SPARE p refl ∙ (saves m lo size (omega arith)).0 p l u (omega (arith, few, room));
+    }
+
+    pub undone_so : Means (undone m₂ ks (Some s)) r
+    unfolding undone
+    undone_so = seated_back m m₃ r row lo size M M₃ aside few ends (several_between r ks row (means_fine m r M) t b).same_cards
 
 -- what is so of links is so of the first of them
 every_front : (f : Link → Bool) (n : ℕ) (ls : List Link) → every f ls ≡ true → every f (take n ls) ≡ true
@@ -99,18 +107,18 @@ covers_front s r (suc n) (l ∷ ls) C =
     record { lower = omega (arith, C.lower, ih.lower); higher = omega (arith, C.higher, ih.higher); within = C.within }
 
 pub undoes : Undoes
-undoes m r ls n s row M sm t long C b =
-    undone_so m r ls (take n ls) s row M (every_front _ n ls sm) (every_front _ n ls t) long (covers_front s r n ls C) b
+undoes m r ls n s row M D sm t long C b =
+    undone_so m r ls (take n ls) s row M D (every_front _ n ls sm) (every_front _ n ls t) long (covers_front s r n ls C) b
 
 -- links that were all put in, and links of which one goes round
-module _ (m : List ℕ) (r : Board) (ls : List Link) (s : Span) (M : Means m r) (sm : every (λ l. small_command (Links l)) ls ≡ true)
+module _ (m : List ℕ) (r : Board) (ls : List Link) (s : Span) (M : Means m r) (D : Dense m) (sm : every (λ l. small_command (Links l)) ls ≡ true)
     (t : all_there r ls ≡ true) (long : length m ≡ MEMORY) (C : Covers s r ls) where
   pub undoes_all : AllIn (put_aside m s) r ls → Means (undone (tried (put_aside m s) ls 0).memory ls (Some s)) r
-  undoes_all A = undone_so m r ls ls s A.row M sm t long C A.becomes A.means
+  undoes_all A = undone_so m r ls ls s A.row M D sm t long C A.becomes A.means
 
   pub undoes_stopped : Stopped (put_aside m s) r ls →
       Means (undone (tried (put_aside m s) ls 0).memory (take (tried (put_aside m s) ls 0).count ls) (Some s)) r
-  undoes_stopped S = undoes m r ls (tried (put_aside m s) ls 0).count s S.row M sm t long C S.becomes S.means
+  undoes_stopped S = undoes m r ls (tried (put_aside m s) ls 0).count s S.row M D sm t long C S.becomes S.means
 
 pub undoes_none : UndoesNone
 unfolding undone reseated at_each

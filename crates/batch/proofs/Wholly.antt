@@ -3,13 +3,15 @@ use Rattle.std.proofs.Common.{Err, ◌≡◌, ℕ, ◌≤◌, true, eqb, List, l
 use lib.ListN.{length-replicate}
 use Rattle.std.proofs.lemmas.Bool.{cases_Bool}
 use Rattle.memory.specs.declared.column.TheConstants.{MEMORY}
+use Rattle.keeper.specs.declared.layout.TheConstants.{MORE_FROM, MORE_TO}
 use Rattle.keeper.specs.declared.event.Event.TheVariants.{Said, Next}
 use Rattle.keeper.specs.declared.event.Reason.TheVariants.{Unfit}
 use Rattle.keeper.specs.Answers.{Answer, quiet, ends, pending}
 use Rattle.keeper.specs.Promise.{Steady as KeeperSteady}
 use Rattle.keeper.specs.Sized.{KeepsSize, fits, small_event}
 use Rattle.order.specs.Lists.{every}
-use Rattle.row.specs.Layout.{tally, count}
+use Rattle.row.specs.declared.layout.TheConstants.{COUNT}
+use Rattle.row.specs.Meaning.{count}
 use Rattle.keeper.proofs.Size.{small_cell, size_same, size_written}
 use Rattle.keeper.proofs.OwnSize.{size_pending, Sized, sized_cond, sized_then, sized_on, sized_busy, sized_answer, own_steady}
 use Rattle.keeper.proofs.Wholly.{at_start}
@@ -38,7 +40,7 @@ sized_row : (m : List ℕ) → Sized m (told_span m (whole_row m))
 unfolding noting
 sized_row m =
     sized_then m (noting m (whole_row m))
-    (size_written m _ tally 6 (count m) (small_cell m tally 0) (size_written m _ tally 5 0 (λ _. omega arith) (size_pending m m 3 (omega arith) (size_same m))))
+    (size_written m _ MORE_TO 0 (count m) (small_cell m COUNT 0) (size_written m _ MORE_FROM 0 0 (λ _. omega arith) (size_pending m m 3 (omega arith) (size_same m))))
     _ (sized_on (noting m (whole_row m)))
 
 sized_anew : (m : List ℕ) → Sized m (said_anew m)
