@@ -1,8 +1,6 @@
 -- Rows without gaps: a slot's seat is its place. They stay so where nobody comes or goes; and a packed row is one.
 use Rattle.std.proofs.Common.{◌≡◌, ℕ, ◌/◌, ◌%◌, ◌<◌, ◌≤◌, min, true, ◌&&◌, eqb, ltb, List, map, length, sym, refl, ap, ◌∙◌, subst, arith}
 use Rattle.std.specs.List.{range_with_len}
-use Rattle.std.proofs.lemmas.List.{length-map}
-use Rattle.std.proofs.lemmas.List.FromFn.{length-map-range_with_len}
 use Rattle.std.proofs.lemmas.Bool.{lt-ltb, ltb-true, eqb-true, eq-eqb, and_parts, and_from}
 use Rattle.order.specs.declared.board.TheConstants.{CARDS}
 use Rattle.order.specs.Lists.{place}
@@ -12,15 +10,23 @@ use Rattle.memory.specs.Footprints.{clear, Writes}
 use Rattle.row.specs.declared.layout.TheConstants.{SEATS_MOST, COUNT, ENDING, SLOTS, SEATS, TAKEN}
 use Rattle.row.specs.Meaning.{digit, bit_set, listed, in_use, count, ending, taken, row_of, used, Seating, IsRow}
 use Rattle.row.specs.Laws.{Packed}
+use Rattle.row.proofs.Listing.{length_listed}
 use Rattle.row.proofs.Along.{amount_all, listed_all, place_there}
 use Rattle.batch.specs.Dense.{Dense}
+
+-- how many slots stand in a row
+pub row_length : (m : List ℕ) → IsRow m → length (row_of m) ≡ count m
+row_length m R = length_listed (cell m SLOTS) (taken m) (ending m) ∙ sym R.stands.seated.counts
+
+pub row_few : (m : List ℕ) → IsRow m → count m ≤ CARDS
+row_few m R = let f = R.stands.freed in omega (arith, f.all, f.few)
 
 module _ (m : List ℕ) (D : Dense m) where
   abbrev S : Seating (count m) (ending m) (cell m SLOTS) (cell m SEATS) (taken m)
   S = D.is_row.stands.seated
 
   pub few_count : count m ≤ CARDS
-  few_count = let f = D.is_row.stands.freed in omega (arith, f.all, f.few)
+  few_count = row_few m D.is_row
 
   pub held : (p : ℕ) → p < count m → taken m p ≡ true
   held p l = D.full p ∙ lt-ltb p (count m) l
@@ -29,7 +35,7 @@ module _ (m : List ℕ) (D : Dense m) where
   dense_row = ap (listed (cell m SLOTS) (taken m)) D.tight ∙ listed_all (cell m SLOTS) (taken m) (count m) held
 
   pub length_row : length (row_of m) ≡ count m
-  length_row = ap length dense_row ∙ length-map-range_with_len (cell m SLOTS) 0 (count m)
+  length_row = row_length m D.is_row
 
   -- the slot at a place
   pub slot_at : (p : ℕ) → p < count m → (cell m SLOTS p < CARDS) × (cell m SEATS (cell m SLOTS p) ≡ p)

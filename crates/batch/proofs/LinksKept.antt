@@ -20,8 +20,9 @@ use Rattle.keeper.specs.Sister.{within}
 use Rattle.keeper.specs.Meaning.{Means}
 use Rattle.keeper.proofs.Knowing.{names}
 use Rattle.keeper.proofs.Saying.{missing_is_not, exists_is_not, full_is_not}
-use Rattle.keeper.proofs.Carrying.{noted}
-use Rattle.keeper.proofs.Noting.{settles}
+use Rattle.memory.proofs.Footprints.{same}
+use Rattle.keeper.specs.Columns.{columns}
+use Rattle.keeper.proofs.Carrying.{noted, settles}
 use Rattle.keeper.proofs.ToldRuns.{from_first}
 use Rattle.batch.specs.declared.layout.TheConstants.{BATCH}
 use Rattle.batch.specs.declared.seating.Span.{Span}
@@ -163,17 +164,17 @@ module _ (m : List ℕ) (r : Board) (ls : List Link) (long : length m ≡ MEMORY
       abbrev k : List ℕ
       k = undone t.memory (take t.count ls) o
 
-      same : Means k r
-      same = undone_stopped o refl round S
+      board_same : Means k r
+      board_same = undone_stopped o refl round S
 
       shown : StepKept own 3 m r (several ls)
       unfolding several_refusal Refused
       shown =
           let e = said_is ∙ trial_round t ls o S.way S.is_way in
-          refused_so m r ls _ (run_is _ e ∙ first_round k same.ready S.way) Cycle (rw (few, there, fresh, round) refl)
+          refused_so m r ls _ (run_is _ e ∙ first_round k board_same.long S.way) Cycle (rw (few, there, fresh, round) refl)
           (refl, refl, (λ _. (S.way, refl, S.round)), λ n. absurd (n refl))
           (record {
-            means = subst (Means (leaves_pending (leaves_pending k 2) 0)) (sym same.is) (settles k (leaves_pending k 2) same.ready same.single (noted k 4 2 (omega arith)));
+            means = subst (Means (leaves_pending (leaves_pending k 2) 0)) (sym board_same.is) (settles k (leaves_pending k 2) board_same.ready board_same.single board_same.long (noted k k 2 (omega arith) (same columns k)));
             few = K.few;
           })
 

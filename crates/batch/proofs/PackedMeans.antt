@@ -29,4 +29,4 @@ module _ (m : List ℕ) (r : Board) (M : Means m r) where
   pub packed_means : Means (packed m) r
   packed_means =
       let P = is_packed in
-      means_on packed_columns m (packed m) (packed_writes m) refl refl refl refl refl P.is_row P.same_row r M
+      means_on packed_columns m (packed m) (packed_writes m) refl refl refl refl P.is_row P.same_row r M

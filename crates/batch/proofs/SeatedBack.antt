@@ -14,17 +14,18 @@ use Rattle.order.specs.Renaming.{renamed}
 use Rattle.order.proofs.Climbs.{fine_parts}
 use Rattle.order.proofs.Tabulated.{made_same, made_apart, distinct_made, take_made}
 use Rattle.order.proofs.Parts.{with_part, row_in_parts}
-use Rattle.links.specs.Table.{edges, IsTable, once}
+use Rattle.links.specs.Table.{edges}
+use Rattle.links.proofs.Keeping.{table_kept, edges_kept}
 use Rattle.search.specs.Meaning.{slot_board}
 use Rattle.keeper.specs.Meaning.{Means}
 use Rattle.keeper.proofs.Knowing.{row_is}
-use Rattle.keeper.specs.declared.layout.TheConstants.{PENDING}
+use Rattle.keeper.proofs.Carrying.{unmarked, unmarked_kept, board_of, means_by}
 use Rattle.batch.specs.declared.layout.TheConstants.{SPARE}
 use Rattle.batch.specs.Dense.{Dense}
 use Rattle.batch.specs.Seating.{reseated}
 use Rattle.batch.specs.SeatLaws.{Seated}
 use Rattle.batch.proofs.Dense.{few_count, dense_row, length_row}
-use Rattle.batch.proofs.ReadyAgain.{table_stays, ready_on}
+use Rattle.batch.proofs.ReadyAgain.{ids_kept}
 use Rattle.batch.proofs.Reseating.{reseats, reseated_writes}
 use Rattle.batch.proofs.Tries.{means_fine}
 use Rattle.batch.proofs.SameCards.{as_long}
@@ -112,9 +113,6 @@ module _ (m m' : List ℕ) (r : Board) (row : List ℕ) (lo n : ℕ) (M : Means 
   frame : Writes (SLOTS ∷ SEATS ∷ []) m' m''
   frame = reseated_writes m' lo n (omega (arith, few_since, few_count m' P.dense_since))
 
-  stays : IsTable m'' × (edges m'' ≡ edges m')
-  stays = table_stays (SLOTS ∷ SEATS ∷ []) m' m'' frame refl M'.ready.is_table
-
   -- the row is as it was
   row_again : row_of m'' ≡ row_of m
   unfolding with_part
@@ -128,15 +126,12 @@ module _ (m m' : List ℕ) (r : Board) (row : List ℕ) (lo n : ℕ) (M : Means 
       seated.row_is ∙ rw (front, put_aside, rest) (rw i at (row_in_parts (row_of m) lo (lo + n) (omega arith)))
 
   board_again : slot_board m'' ≡ slot_board m
-  board_again =
-      ap₂ (λ (xs : List ℕ) (ls : List Link). record { row = xs; links = ls }) row_again
-      (stays.1 ∙ same_edges)
+  board_again = board_of row_again (edges_kept (SLOTS ∷ SEATS ∷ []) refl m' m'' frame ∙ same_edges)
 
   pub seated_back : Means m'' r
-  seated_back = record {
-    ready = ready_on (SLOTS ∷ SEATS ∷ []) m' m'' frame refl refl M'.ready seated.is_row stays.0
-        (subst (λ (b : Board). fine b ≡ true) (sym board_again) M.ready.fine_so);
-    single = ap (λ (b : Board). once b.links) board_again ∙ M.single;
-    idle = frame.others PENDING 0 refl ∙ M'.idle;
-    is = M.is ∙ ap₂ renamed (fun_ext (λ j. sym (frame.others IDS j refl ∙ P.same_ids j))) (sym board_again);
-  }
+  seated_back =
+      let fs = SLOTS ∷ SEATS ∷ [] in
+      let ids : cell m'' IDS ≡ cell m IDS = ids_kept fs m' m'' frame refl ∙ fun_ext P.same_ids in
+      means_by fs m' m'' frame refl M' seated.is_row (table_kept fs refl m' m'' frame M'.ready.is_table)
+      (unmarked_kept fs m' m'' frame refl (unmarked m' M'.ready)) (slot_board m) board_again M.ready.fine_so M.single r
+      (M.is ∙ ap (λ (f : ℕ → ℕ). renamed f (slot_board m)) (sym ids))

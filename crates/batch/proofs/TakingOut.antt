@@ -9,10 +9,8 @@ use Rattle.order.specs.Board.{Board, ◌⟶◌, linked}
 use Rattle.order.specs.Renaming.{named}
 use Rattle.memory.specs.Columns.{cell}
 use Rattle.memory.specs.Footprints.{Writes}
-use Rattle.memory.proofs.Footprints.{kept}
 use Rattle.row.specs.declared.layout.TheConstants.{IDS}
-use Rattle.row.specs.Columns.{columns as row}
-use Rattle.row.specs.Meaning.{used, RowIn}
+use Rattle.row.specs.Meaning.{used}
 use Rattle.order.proofs.Climbs.{fine_parts, link_ends}
 use Rattle.order.proofs.RenamesLinks.{Known, joins_map}
 use Rattle.links.specs.Pairs.{joins}
@@ -21,12 +19,11 @@ use Rattle.links.specs.Table.{columns as table, edges, once}
 use Rattle.links.specs.Laws.{StaysOnce}
 use Rattle.links.proofs.Standing.{stays_once}
 use Rattle.links.proofs.Writing.{removed_writes}
-use Rattle.search.specs.Meaning.{Ready}
-use Rattle.keeper.specs.declared.layout.TheConstants.{PENDING}
+use Rattle.search.specs.Meaning.{slot_board, Ready}
 use Rattle.keeper.specs.Promise.{small_command}
-use Rattle.keeper.specs.Answers.{pending}
 use Rattle.keeper.specs.Meaning.{card_board, Means}
 use Rattle.keeper.proofs.Knowing.{fine_cards, naming, ends_used}
+use Rattle.keeper.proofs.Carrying.{unmarked, unmarked_kept, same_row, means_by}
 use Rattle.keeper.proofs.TwoCards.{Seated, has_row, seated, slots_there, linked_is}
 use Rattle.keeper.proofs.Unlinking.{law, fine_after, board_after}
 use Rattle.batch.specs.Several.{with_links}
@@ -34,7 +31,6 @@ use Rattle.batch.specs.Joining.{dropped, taken_out}
 use Rattle.batch.specs.UndoLaws.{TakesOut}
 use Rattle.batch.proofs.Anys.{any_append}
 use Rattle.batch.proofs.Tries.{small_parts}
-use Rattle.batch.proofs.ReadyAgain.{ready_on}
 
 -- a link that is there once, taken out of a list
 none_out : (x : Link) (xs : List Link) → any (joins x) xs ≡ false → filter (λ y. not (joins x y)) xs ≡ xs
@@ -73,8 +69,10 @@ once_cards m r M =
 abbrev without : Board → Link → Board
 without r l = record { row = r.row; links = filter (λ y. not (joins l y)) r.links }
 
-module _ (m : List ℕ) (R : Ready m) (o : once (edges m) ≡ true) (i : pending m ≡ 0) (l : Link) (sm : small_command (Unlinks l) ≡ true)
-    (h : linked (card_board m) l.from l.to ≡ true) where
+module _ (m : List ℕ) (M : Means m (card_board m)) (l : Link) (sm : small_command (Unlinks l) ≡ true) (h : linked (card_board m) l.from l.to ≡ true) where
+  abbrev R : Ready m
+  R = M.ready
+
   by_slots : (s t : ℕ) → Seated m l.from s → Seated m l.to t → Means (dropped m l) (without (card_board m) l)
   unfolding dropped StaysOnce
   by_slots s t A B =
@@ -82,13 +80,11 @@ module _ (m : List ℕ) (R : Ready m) (o : once (edges m) ≡ true) (i : pending
       let m' = (removed m x).memory in
       let w : Writes table m m' = removed_writes m x in
       let k = sym (linked_is m R l.from l.to s t A B) ∙ h in
-      let e = law m R o i l sm s t A B in
-      rw (slots_there m R l s t A B) (record {
-        ready = ready_on table m m' w refl refl R (kept table row refl m m' w RowIn R.is_row) e.0 (fine_after m R o i l sm s t A B k);
-        single = ap once e.1 ∙ stays_once.2 _ (edges m) o;
-        idle = w.others PENDING 0 refl ∙ i;
-        is = board_after m R o i l sm s t A B k;
-      })
+      let o = M.single in
+      let e = law m R o M.idle l sm s t A B in
+      rw (slots_there m R l s t A B)
+      (means_by table m m' w refl M ((same_row table m m' w refl).is_row R.is_row) e.0 (unmarked_kept table m m' w refl (unmarked m R)) (slot_board m') refl
+      (fine_after m R o M.idle l sm s t A B k) (ap once e.1 ∙ stays_once.2 _ (edges m) o) (without (card_board m) l) (board_after m R o M.idle l sm s t A B k))
 
   drops : Means (dropped m l) (without (card_board m) l)
   drops =
@@ -103,7 +99,7 @@ dropped_means : (m : List ℕ) (r : Board) (l : Link) → small_command (Links l
 unfolding small_command
 dropped_means m r l sm M h =
     let e = M.is in
-    subst (λ (b : Board). Means (dropped m l) (without b l)) (sym e) (drops m M.ready M.single M.idle l sm (rw e at h))
+    subst (λ (b : Board). Means (dropped m l) (without b l)) (sym e) (drops m (subst (Means m) e M) l sm (rw e at h))
 
 -- all of them
 pub takes_out : TakesOut
