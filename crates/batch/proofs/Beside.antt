@@ -15,7 +15,7 @@ use Rattle.memory.proofs.Cells.{small_written, small_cell}
 use Rattle.search.proofs.Frames.{only_added}
 use Rattle.batch.specs.Layout.{awaits, leaves}
 use Rattle.batch.specs.Renewing.{raised, counted, counted_all, cleared, freed, freed_all, lessened}
-use Rattle.batch.specs.Listing.{at_each}
+use Rattle.memory.specs.Footprints.{at_each}
 
 -- n is m in the columns of which T holds
 pub record Beside (T : Column → Type 0) (m n : List ℕ) : Type 0 where

@@ -18,7 +18,7 @@ use Rattle.batch.specs.Layout.{awaits, leaves}
 use Rattle.batch.specs.Renewing.{raised, counted, counted_all, cleared, counts}
 use Rattle.batch.proofs.Many.{many, one, many_push, many_few, edges_few}
 use Rattle.batch.proofs.Beside.{Beside, beside_on, beside_raised, beside_counted, beside_cleared}
-use Rattle.batch.specs.Listing.{at_each}
+use Rattle.memory.specs.Footprints.{at_each}
 
 -- the links that go into a slot, and those that come out of it
 abbrev pub to_it : ℕ → Link → Bool

@@ -24,7 +24,7 @@ use Rattle.batch.specs.Layout.{spare, awaits, leaves}
 use Rattle.batch.specs.Renewing.{freed, freed_all, frees, lessened}
 use Rattle.batch.specs.RuleLaws.{within_row}
 use Rattle.batch.proofs.Beside.{Beside, beside_on, beside_freed, beside_lessened}
-use Rattle.batch.specs.Listing.{at_each}
+use Rattle.memory.specs.Footprints.{at_each}
 
 freed_marked : (n : List ℕ) (t : ℕ) → Summed n fore → cell n places t < 8192 →
     Summed (freed n t) fore

@@ -25,7 +25,7 @@ use Rattle.keeper.specs.Promise.{small_command}
 use Rattle.keeper.specs.Answers.{pending}
 use Rattle.keeper.specs.Meaning.{card_board, Means}
 use Rattle.keeper.proofs.Knowing.{names, fine_cards}
-use Rattle.keeper.proofs.TwoCards.{Seated, has_row, seated, slots_there, leads_is, linked_is}
+use Rattle.keeper.proofs.TwoCards.{Seated, seated, slots_there, leads_is, linked_is}
 use Rattle.keeper.proofs.Forward.{forward, no_round, put_means}
 use Rattle.keeper.proofs.Moving.{new, is_firm, keeps_all, goes_back, moved_means}
 use Rattle.keeper.proofs.Backward.{forgotten_ready, forgotten_edges, forgotten_tally, forgotten_board, goes}
@@ -48,7 +48,7 @@ module _ (m : List ℕ) (R : Ready m) (o : once (edges m) ≡ true) (i : pending
   same = record { ready = R; single = o; idle = i; is = refl }
 
   room : live m < ENTRIES
-  room = omega (arith, (names m R).length_links_named, (counts m R.is_table).0)
+  room = omega (arith, (names m R).length_links_named, counts m R.is_table)
 
   module _ (s t : ℕ) (A : Seated m l.from s) (B : Seated m l.to t) (ha : has (cards m) l.from ≡ true) (hb : has (cards m) l.to ≡ true)
       (n : any (same_link (s ⟶ t)) (edges m) ≡ false) where
@@ -94,7 +94,7 @@ module _ (m : List ℕ) (R : Ready m) (o : once (edges m) ≡ true) (i : pending
           let j = put_so fw in
           let z = no_round m R o i l sm s t A B ha hb n ne fw in
           let f = forward m R o i l sm s t A B ha hb n ne fw in
-          let b : Open r l.from l.to = record { there = (has_row m R l.from ∙ ha, has_row m R l.to ∙ hb); no_way = z } in (
+          let b : Open r l.from l.to = record { there = (ha, hb); no_way = z } in (
             (λ _. record {
               no_way = ap (λ (a : Joined). a.way) j;
               row = r.row;
@@ -149,8 +149,8 @@ module _ (m : List ℕ) (R : Ready m) (o : once (edges m) ≡ true) (i : pending
 
   all : has r.row l.from ≡ true → has r.row l.to ≡ true → linked r l.from l.to ≡ false → Either
   all p q z =
-      let ha = sym (has_row m R l.from) ∙ p in
-      let hb = sym (has_row m R l.to) ∙ q in
+      let ha = p in
+      let hb = q in
       let A = seated m R l.from ha in
       let B = seated m R l.to hb in
       let n = sym (linked_is m R l.from l.to A.0 B.0 A.1 B.1) ∙ z in

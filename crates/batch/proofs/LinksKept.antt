@@ -13,7 +13,7 @@ use Rattle.order.proofs.Climbs.{fine_parts}
 use Rattle.links.specs.declared.layout.TheConstants.{ENTRIES}
 use Rattle.links.specs.Entries.{live}
 use Rattle.row.specs.Moves.{packed}
-use Rattle.links.proofs.Counting.{counts}
+use Rattle.links.proofs.Operating.{counts}
 use Rattle.keeper.specs.Engine.{Ran}
 use Rattle.keeper.specs.Answers.{Answer, quiet, refuses, leaves_pending}
 use Rattle.keeper.specs.Sister.{within}
@@ -192,7 +192,7 @@ module _ (m : List ℕ) (r : Board) (ls : List Link) (long : length m ≡ MEMORY
       counted : live t.memory ≡ length r.links + length ls
       counted =
           let N = A.means in
-          (counts t.memory N.ready.is_table).0 ∙ sym (names t.memory N.ready).length_links_named
+          counts t.memory N.ready.is_table ∙ sym (names t.memory N.ready).length_links_named
           ∙ ap (λ (b : Board). length b.links) (sym N.is) ∙ length-append r.links ls
 
       abbrev brings : said_several m ls ≡ brought t.memory ls o

@@ -5,11 +5,12 @@ use Rattle.memory.specs.Footprints.{Writes}
 use Rattle.order.specs.Board.{Board}
 use Rattle.row.specs.declared.layout.TheConstants.{ENDING, SLOTS, SEATS, TAKEN}
 use Rattle.row.specs.Moves.{packed}
-use Rattle.row.specs.Laws.{Packs, Packed}
-use Rattle.row.proofs.Packing.{packs, packed_writes}
+use Rattle.row.specs.Laws.{Packed}
+use Rattle.row.proofs.Framing.{packed_writes}
+use Rattle.row.proofs.Again.{packs}
 use Rattle.keeper.specs.Meaning.{Means}
 use Rattle.batch.specs.Dense.{Dense}
-use Rattle.batch.proofs.Dense.{packed_dense}
+use Rattle.batch.proofs.Denseness.{dense_packed}
 use Rattle.batch.proofs.ReadyAgain.{means_on}
 
 abbrev packed_columns : List Column
@@ -20,11 +21,10 @@ packed_long m = (packed_writes m).as_long
 
 module _ (m : List ℕ) (r : Board) (M : Means m r) where
   is_packed : Packed m (packed m)
-  unfolding Packs
-  is_packed = packs m (packed m) refl M.ready.is_row
+  is_packed = packs m M.ready.is_row
 
   pub packed_row : Dense (packed m)
-  packed_row = packed_dense m (packed m) is_packed
+  packed_row = dense_packed m (packed m) is_packed
 
   pub packed_means : Means (packed m) r
   packed_means =

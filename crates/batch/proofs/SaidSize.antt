@@ -1,5 +1,5 @@
 -- Several links said at once keep the size of the memory, whatever stands there, and what is answered fits what carries it.
-use Rattle.std.proofs.Common.{Ok, ◌≡◌, ℕ, ◌+◌, ◌-◌, ◌<◌, ◌≤◌, min, true, eqb, ltb, leb, List, [], ◌∷◌, length, take, Some, None, Option, arith}
+use Rattle.std.proofs.Common.{Ok, ◌≡◌, ℕ, ◌+◌, ◌-◌, ◌^◌, ◌<◌, ◌≤◌, min, true, eqb, ltb, leb, List, [], ◌∷◌, length, take, Some, None, Option, arith}
 use lib.ListN.{length-map}
 use Rattle.std.proofs.lemmas.Bool.{and_parts, ltb-true, cond_both}
 use Rattle.order.specs.declared.board.TheConstants.{CARDS, LINKS}
@@ -8,24 +8,22 @@ use Rattle.order.specs.declared.board.Link.{Link}
 use Rattle.order.specs.declared.board.Refusal.TheVariants.{Missing, Exists, Full}
 use Rattle.order.specs.Lists.{every}
 use Rattle.memory.specs.Columns.{cell}
-use Rattle.memory.specs.declared.column.Column.{Column}
-use Rattle.memory.specs.Footprints.{Writes}
+use Rattle.memory.proofs.Cells.{small_cell}
 use Rattle.row.specs.declared.layout.TheConstants.{IDS, SEATS}
 use Rattle.row.specs.Moves.{packed}
-use Rattle.row.proofs.Packing.{packed_writes}
+use Rattle.row.proofs.Framing.{packed_writes}
 use Rattle.links.specs.Entries.{live}
 use Rattle.search.specs.declared.layout.TheConstants.{VIA}
 use Rattle.search.specs.Hunt.{meeting}
 use Rattle.search.specs.Way.{way}
 use Rattle.search.proofs.Joining.{way_few}
 use Rattle.search.proofs.Touching.{meeting_writes}
-use Rattle.keeper.specs.declared.layout.TheConstants.{MORE_FROM, MORE_TO}
 use Rattle.keeper.specs.Promise.{all_small, small_command}
 use Rattle.keeper.specs.Sized.{KeepsSize}
 use Rattle.keeper.specs.Linking.{slots_found}
 use Rattle.keeper.specs.Reordering.{round_cards}
-use Rattle.keeper.proofs.Size.{small_map, small_cell, size_same, size_then, size_written}
-use Rattle.keeper.proofs.OwnSize.{size_each, size_pending, Sized, sized_done, sized_refuses, sized_then, sized_cond, sized_shows, small_one, Any, sized_on}
+use Rattle.keeper.proofs.Size.{small_each, small_map, size_same, size_then, size_writes}
+use Rattle.keeper.proofs.OwnSize.{size_pending, Sized, sized_done, sized_refuses, sized_then, sized_cond, sized_shows, small_one, Any, sized_on}
 use Rattle.batch.specs.declared.layout.TheConstants.{BATCH}
 use Rattle.batch.specs.declared.seating.Span.{Span}
 use Rattle.batch.specs.Checking.{all_found, repeated, wider, widened, spanned, moving, no_span, span}
@@ -39,6 +37,7 @@ use Rattle.keeper.specs.declared.event.Act.TheVariants.{Done}
 use Rattle.batch.specs.declared.checking.Named.{Named}
 use Rattle.batch.proofs.Saving.{saved_writes}
 use Rattle.batch.proofs.Reseating.{reseated_writes}
+use Rattle.batch.proofs.SpanTold.{noting_writes}
 use Rattle.batch.proofs.TriedFrames.{joined_writes, tried_writes, taken_out_writes}
 
 -- a way to be shown
@@ -54,10 +53,7 @@ round_fits : (m : List ℕ) (x y : Link) → WayFits m (Some (round_cards m x y)
 unfolding round_cards
 round_fits m x y =
     let w = way (cell m VIA) CARDS x y in
-    (omega (arith, length-map w (cell m IDS), way_few (cell m VIA) CARDS x y), λ h. small_map (cell m IDS) (λ k. small_cell m IDS k h) w)
-
-size_by : (fs : List Column) (m n : List ℕ) → Writes fs m n → KeepsSize m n
-size_by fs m n w = size_each m n w.as_long w.small
+    (omega (arith, length-map w (cell m IDS), way_few (cell m VIA) CARDS x y), λ h. small_map (cell m IDS) (λ k. small_cell m IDS k (small_each m h)) w)
 
 -- a link is tried
 abbrev JoinedFits : List ℕ → Joined → Type 0
@@ -69,7 +65,7 @@ joined_slots_fits m x =
     let n = (meeting m x).memory in
     cond_both (ltb (cell m SEATS x.to) (cell m SEATS x.from)) _ _ (JoinedFits m)
     (λ _. given_holds Any (JoinedFits m) (meeting m x).answer _ _ tt tt
-    (λ y _. way_then m n (Some (round_cards n x y)) (size_by _ m n (meeting_writes m x)) (round_fits n x y)))
+    (λ y _. way_then m n (Some (round_cards n x y)) (size_writes _ m n (meeting_writes m x)) (round_fits n x y)))
     (λ _. tt)
 
 joined_fits : (m : List ℕ) (l : Link) → small_command (Links l) ≡ true → WayFits m (joined m l).way
@@ -90,12 +86,12 @@ tried_fits m (l ∷ ls) i h =
     let p = and_parts (small_command (Links l)) _ h in
     let n = (joined m l).memory in
     given_holds (WayFits m) (TriedFits m) (joined m l).way _ _ (joined_fits m l p.0)
-    (way_then m n (tried n ls (i + 1)).way (size_by _ m n (joined_writes m l)) (tried_fits n ls (i + 1) p.1)) (λ ks w. w)
+    (way_then m n (tried n ls (i + 1)).way (size_writes _ m n (joined_writes m l)) (tried_fits n ls (i + 1) p.1)) (λ ks w. w)
 
 -- the part of the row that may change
 record Bounded (s : Span) : Type 0 where
   low : s.low ≤ CARDS
-  high : s.high < 18446744073709551616
+  high : s.high < 2 ^ 64
 
 abbrev BoundedNamed : Named → Type 0
 BoundedNamed s = Bounded s.span
@@ -123,8 +119,7 @@ bounded_span m ls =
 
 module _ (m : List ℕ) (s : Span) (b : Bounded s) where
   size_noting : KeepsSize m (noting m s)
-  unfolding noting
-  size_noting = size_written m _ MORE_TO 0 s.high (λ _. b.high) (size_written m _ MORE_FROM 0 s.low (λ _. omega arith) (size_pending m m 3 (omega arith) (size_same m)))
+  size_noting = size_writes _ m _ (noting_writes m s (λ _. omega (arith, b.low)) (λ _. b.high))
 
   sized_told_span : Sized m (told_span m s)
   sized_told_span = sized_then m (noting m s) size_noting _ (sized_on (noting m s))
@@ -132,11 +127,11 @@ module _ (m : List ℕ) (s : Span) (b : Bounded s) where
   size_reseated : (ls : List Link) → KeepsSize m (reseated (min s.high CARDS - s.low) (taken_out m ls) s.low)
   size_reseated ls =
       let n = taken_out m ls in
-      size_then m n _ (size_by _ m n (taken_out_writes m ls)) (size_by _ n _ (reseated_writes n s.low (min s.high CARDS - s.low) (omega arith)))
+      size_then m n _ (size_writes _ m n (taken_out_writes m ls)) (size_writes _ n _ (reseated_writes n s.low (min s.high CARDS - s.low) (omega arith)))
 
 size_undone : (m : List ℕ) (o : Option Span) (b : BoundedPart o) (ls : List Link) → KeepsSize m (undone m ls o)
 unfolding undone
-size_undone m None b ls = size_by _ m _ (taken_out_writes m ls)
+size_undone m None b ls = size_writes _ m _ (taken_out_writes m ls)
 size_undone m (Some s) b ls = size_reseated m s b ls
 
 sized_part : (m : List ℕ) (o : Option Span) (b : BoundedPart o) → Sized m (given o (quiet (ends (Ok Done) m)) (λ s. told_span m s))
@@ -151,7 +146,7 @@ sized_brought m o b ls =
 size_aside : (m : List ℕ) (o : Option Span) → KeepsSize m (part_aside m o)
 unfolding part_aside
 size_aside m None = size_same m
-size_aside m (Some s) = size_by _ m _ (saved_writes m s.low (min s.high CARDS - s.low))
+size_aside m (Some s) = size_writes _ m _ (saved_writes m s.low (min s.high CARDS - s.low))
 
 module _ (m : List ℕ) (ls : List Link) (h : every (λ l. small_command (Links l)) ls ≡ true) where
   sized_trial : (s : Option Span) (t : Tried) → BoundedPart s → KeepsSize m t.memory → WayFits m t.way → Sized m (by_trial t ls s)
@@ -167,7 +162,7 @@ module _ (m : List ℕ) (ls : List Link) (h : every (λ l. small_command (Links 
   sized_rearranged s b =
       let n = part_aside m s in
       let z = size_aside m s in
-      sized_trial s (tried n ls 0) b (size_then m n _ z (size_by _ n _ (tried_writes n ls 0))) (way_then m n (tried n ls 0).way z (tried_fits n ls 0 h))
+      sized_trial s (tried n ls 0) b (size_then m n _ z (size_writes _ n _ (tried_writes n ls 0))) (way_then m n (tried n ls 0).way z (tried_fits n ls 0 h))
 
 pub sized_several : (m : List ℕ) (ls : List Link) → every (λ l. small_command (Links l)) ls ≡ true → Sized m (said_several m ls)
 unfolding said_several
@@ -176,6 +171,6 @@ sized_several m ls h =
     let p = packed m in
     sized_cond m (leb (length ls) BATCH) _ _
     (sized_cond m (all_found m ls) _ _
-    (sized_cond m (repeated m [] ls) _ _ (no Exists) (sized_then m p (size_by _ m p (packed_writes m)) _ (sized_rearranged p ls h (span p ls) (bounded_span p ls))))
+    (sized_cond m (repeated m [] ls) _ _ (no Exists) (sized_then m p (size_writes _ m p (packed_writes m)) _ (sized_rearranged p ls h (span p ls) (bounded_span p ls))))
     (no Missing))
     (no Full)

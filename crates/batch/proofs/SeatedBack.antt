@@ -2,7 +2,7 @@
 use Rattle.std.proofs.Common.{◌≡◌, ℕ, ◌+◌, ◌-◌, ◌<◌, ◌≤◌, true, List, [], ◌∷◌, map, length, take, drop, sym, refl, ap, ◌∙◌, subst, ap₂, arith}
 use mathlib.Core.Path.{fun_ext}
 use Rattle.std.specs.List.{range_with_len}
-use Rattle.std.proofs.lemmas.List.{length-map, take-map, drop-map}
+use Rattle.std.proofs.lemmas.List.{take-map, drop-map}
 use Rattle.order.specs.declared.board.Link.{Link}
 use Rattle.order.specs.Lists.{has, distinct}
 use Rattle.order.specs.Board.{Board, fine}
@@ -10,6 +10,7 @@ use Rattle.memory.specs.Columns.{cell}
 use Rattle.memory.specs.Footprints.{Writes}
 use Rattle.row.specs.declared.layout.TheConstants.{IDS, CHAIN, SLOTS, SEATS}
 use Rattle.row.specs.Meaning.{row_of, count}
+use Rattle.row.proofs.Present.{length_cards}
 use Rattle.order.specs.Renaming.{renamed}
 use Rattle.order.proofs.Climbs.{fine_parts}
 use Rattle.order.proofs.Tabulated.{made_same, made_apart, distinct_made, take_made}
@@ -18,13 +19,12 @@ use Rattle.links.specs.Table.{edges}
 use Rattle.links.proofs.Keeping.{table_kept, edges_kept}
 use Rattle.search.specs.Meaning.{slot_board}
 use Rattle.keeper.specs.Meaning.{Means}
-use Rattle.keeper.proofs.Knowing.{row_is}
 use Rattle.keeper.proofs.Carrying.{unmarked, unmarked_kept, board_of, means_by}
 use Rattle.batch.specs.declared.layout.TheConstants.{SPARE}
 use Rattle.batch.specs.Dense.{Dense}
 use Rattle.batch.specs.Seating.{reseated}
 use Rattle.batch.specs.SeatLaws.{Seated}
-use Rattle.batch.proofs.Dense.{few_count, dense_row, length_row}
+use Rattle.batch.proofs.Denseness.{row_is, few}
 use Rattle.batch.proofs.ReadyAgain.{ids_kept}
 use Rattle.batch.proofs.Reseating.{reseats, reseated_writes}
 use Rattle.batch.proofs.Tries.{means_fine}
@@ -33,8 +33,8 @@ use Rattle.batch.proofs.Ends.{SameEnds}
 use Rattle.batch.proofs.Middles.{middle, same_middle}
 use Rattle.batch.proofs.SlotsBack.{slot_of, slots_back}
 
-pub row_count : (m : List ℕ) (r : Board) → Means m r → Dense m → length r.row ≡ count m
-row_count m r M D = ap (λ (b : Board). length b.row) M.is ∙ ap length (row_is m M.ready) ∙ length-map (row_of m) (cell m IDS) ∙ length_row m D
+pub row_count : (m : List ℕ) (r : Board) → Means m r → length r.row ≡ count m
+row_count m r M = ap (λ (b : Board). length b.row) M.is ∙ length_cards m M.ready.is_row
 
 -- two rows without gaps: m' has the cards in the slots that m has them in, with the row of m at the n places from lo on put aside
 pub record Aside (m m' : List ℕ) (lo n : ℕ) : Type 0 where
@@ -45,7 +45,7 @@ pub record Aside (m m' : List ℕ) (lo n : ℕ) : Type 0 where
   pub aside : (p : ℕ) → lo ≤ p → p < lo + n → cell m' SPARE p ≡ cell m SLOTS p
 
 module _ (m m' : List ℕ) (r : Board) (row : List ℕ) (lo n : ℕ) (M : Means m r) (M' : Means m' (record { row = row; links = r.links }))
-    (P : Aside m m' lo n) (few : lo + n ≤ length r.row) (ends : SameEnds lo (lo + n) row r.row)
+    (P : Aside m m' lo n) (inside : lo + n ≤ length r.row) (ends : SameEnds lo (lo + n) row r.row)
     (same_cards : (k : ℕ) → has row k ≡ has r.row k) where
   abbrev slot : ℕ → ℕ
   slot = slot_of m
@@ -75,7 +75,7 @@ module _ (m m' : List ℕ) (r : Board) (row : List ℕ) (lo n : ℕ) (M : Means 
   apart_since = (fine_parts r' (means_fine m' r' M')).apart
 
   few_since : lo + n ≤ count m'
-  few_since = omega (arith, few, row_count m' r' M' P.dense_since, as_long row r.row apart_since apart_before same_cards)
+  few_since = omega (arith, inside, row_count m' r' M', as_long row r.row apart_since apart_before same_cards)
 
   -- the slots put aside, and those that stand there
   abbrev ps : List ℕ
@@ -84,13 +84,13 @@ module _ (m m' : List ℕ) (r : Board) (row : List ℕ) (lo n : ℕ) (M : Means 
   put_aside : map (cell m' SPARE) ps ≡ middle lo n (row_of m)
   put_aside =
       made_same (cell m' SPARE) (cell m SLOTS) lo n P.aside
-      ∙ sym (ap (middle lo n) (dense_row m P.dense) ∙ take_made (cell m SLOTS) (count m) lo n (omega (arith, few, row_count m r M P.dense)))
+      ∙ sym (ap (middle lo n) (row_is m P.dense) ∙ take_made (cell m SLOTS) (count m) lo n (omega (arith, inside, row_count m r M)))
 
   middle_mapped : (xs : List ℕ) → middle lo n (map slot xs) ≡ map slot (middle lo n xs)
   middle_mapped xs = ap (take n) (drop-map slot lo xs) ∙ take-map slot n (drop lo xs)
 
   standing_there : map slot (middle lo n row) ≡ map (cell m' SLOTS) ps
-  standing_there = sym (middle_mapped row) ∙ ap (middle lo n) (row_since ∙ dense_row m' P.dense_since) ∙ take_made (cell m' SLOTS) (count m') lo n few_since
+  standing_there = sym (middle_mapped row) ∙ ap (middle lo n) (row_since ∙ row_is m' P.dense_since) ∙ take_made (cell m' SLOTS) (count m') lo n few_since
 
   same : (s : ℕ) → has (map (cell m' SPARE) ps) s ≡ has (map (cell m' SLOTS) ps) s
   same s =
@@ -100,8 +100,8 @@ module _ (m m' : List ℕ) (r : Board) (row : List ℕ) (lo n : ℕ) (M : Means 
   each_once : distinct (map (cell m' SPARE) ps) ≡ true
   each_once =
       distinct_made (cell m' SPARE) lo n (λ p q l u v e.
-      made_apart (cell m SLOTS) 0 (count m) p q (subst (λ (xs : List ℕ). distinct xs ≡ true) (dense_row m P.dense) (fine_parts (slot_board m) M.ready.fine_so).apart)
-      (omega arith) u (omega (arith, few, row_count m r M P.dense))
+      made_apart (cell m SLOTS) 0 (count m) p q (subst (λ (xs : List ℕ). distinct xs ≡ true) (row_is m P.dense) (fine_parts (slot_board m) M.ready.fine_so).apart)
+      (omega arith) u (omega (arith, inside, row_count m r M))
       (sym (P.aside p l (omega arith)) ∙ e ∙ P.aside q (omega arith) v))
 
   abbrev m'' : List ℕ
@@ -111,7 +111,7 @@ module _ (m m' : List ℕ) (r : Board) (row : List ℕ) (lo n : ℕ) (M : Means 
   seated = reseats m' lo n P.dense_since few_since each_once same
 
   frame : Writes (SLOTS ∷ SEATS ∷ []) m' m''
-  frame = reseated_writes m' lo n (omega (arith, few_since, few_count m' P.dense_since))
+  frame = reseated_writes m' lo n (omega (arith, few_since, few m' P.dense_since))
 
   -- the row is as it was
   row_again : row_of m'' ≡ row_of m
@@ -132,6 +132,6 @@ module _ (m m' : List ℕ) (r : Board) (row : List ℕ) (lo n : ℕ) (M : Means 
   seated_back =
       let fs = SLOTS ∷ SEATS ∷ [] in
       let ids : cell m'' IDS ≡ cell m IDS = ids_kept fs m' m'' frame refl ∙ fun_ext P.same_ids in
-      means_by fs m' m'' frame refl M' seated.is_row (table_kept fs refl m' m'' frame M'.ready.is_table)
+      means_by fs m' m'' frame refl M' seated.dense.is_row (table_kept fs refl m' m'' frame M'.ready.is_table)
       (unmarked_kept fs m' m'' frame refl (unmarked m' M'.ready)) (slot_board m) board_again M.ready.fine_so M.single r
       (M.is ∙ ap (λ (f : ℕ → ℕ). renamed f (slot_board m)) (sym ids))

@@ -10,8 +10,8 @@ use Rattle.memory.specs.Options.{given}
 use Rattle.row.specs.Lookup.{found}
 use Rattle.row.specs.Meaning.{used, row_of}
 use Rattle.order.specs.Renaming.{named, renamed}
-use Rattle.row.proofs.Present.{found_there}
 use Rattle.row.proofs.Named.{row_used}
+use Rattle.row.proofs.Present.{found_there}
 use Rattle.order.proofs.RenamesLinks.{Known}
 use Rattle.links.specs.Table.{edges}
 use Rattle.search.specs.Meaning.{slot_board}

@@ -1,12 +1,14 @@
 -- A part of the row that a span names is told, and the memory then means the board that it meant before.
-use Rattle.std.proofs.Common.{◌≡◌, ℕ, ◌≤◌, true, List, [], length, sym, ap, ◌∙◌, subst, ap₂, arith}
+use Rattle.std.proofs.Common.{◌≡◌, ℕ, ◌+◌, ◌^◌, ◌<◌, ◌≤◌, true, List, [], length, sym, refl, ap, ◌∙◌, subst, ap₂, arith}
+use Rattle.order.specs.declared.board.TheConstants.{CARDS}
 use Rattle.order.specs.Lists.{every}
 use Rattle.order.specs.Board.{Board}
 use Rattle.memory.specs.Columns.{cell, written}
 use Rattle.command.specs.Commands.{Told, told_rows}
+use Rattle.memory.specs.Footprints.{Small}
 use Rattle.memory.proofs.Footprints.{same, on, put}
-use Rattle.row.specs.declared.layout.TheConstants.{IDS}
-use Rattle.row.specs.Meaning.{row_of, cards}
+use Rattle.row.proofs.Present.{length_cards, few_cards}
+use Rattle.row.specs.Meaning.{cards}
 use Rattle.memory.proofs.Cells.{cell_same, cell_apart, length_written}
 use Rattle.search.specs.Meaning.{Ready}
 use Rattle.keeper.specs.declared.layout.TheConstants.{PENDING, MORE_FROM, MORE_TO}
@@ -16,13 +18,11 @@ use Rattle.keeper.specs.Answers.{pending, leaves_pending}
 use Rattle.keeper.specs.Telling.{told_part}
 use Rattle.keeper.specs.Sister.{within}
 use Rattle.keeper.specs.Meaning.{Means}
-use Rattle.keeper.proofs.Knowing.{row_is}
 use Rattle.keeper.proofs.Carrying.{Noted, noted, noted_ready, settles, is_pending, same_row}
 use Rattle.keeper.proofs.Parts.{Anew}
 use Rattle.keeper.proofs.ToldRuns.{from_first, told_run, went_more}
 use Rattle.batch.specs.declared.seating.Span.{Span}
 use Rattle.batch.specs.Saying.{noting, told_span}
-use Rattle.batch.proofs.Dense.{row_length, row_few}
 
 -- the part from lo up to hi is told, and takes the place of what stood there
 pub record ToldSo (m : List ℕ) (b : Board) (s : Span) : Type 0 where
@@ -33,6 +33,13 @@ pub record ToldSo (m : List ℕ) (b : Board) (s : Span) : Type 0 where
   pub makes : (row : List ℕ) → Anew row b.row s.low s.high → told_rows row parts ≡ b.row
   pub inside : every (within s.low s.high) parts ≡ true
 
+pub noting_writes : (m : List ℕ) (s : Span) → (Small m → s.low < 2 ^ 64) → (Small m → s.high < 2 ^ 64) → Noted m (noting m s)
+unfolding noting
+noting_writes m s low high =
+    let n = leaves_pending m 3 in
+    put columns m (written n MORE_FROM 0 s.low) MORE_TO 0 s.high refl high
+    (put columns m n MORE_FROM 0 s.low refl low (noted m m 3 (omega arith) (same columns m)))
+
 module _ (m : List ℕ) (b : Board) (M : Means m b) (s : Span) (up : s.low ≤ s.high) (low : s.high ≤ length b.row) where
   abbrev R : Ready m
   R = M.ready
@@ -40,18 +47,11 @@ module _ (m : List ℕ) (b : Board) (M : Means m b) (s : Span) (up : s.low ≤ s
   abbrev k : List ℕ
   k = noting m s
 
-  many : length b.row ≡ length (cards m)
-  many = ap (λ (x : Board). length x.row) M.is ∙ ap length (row_is m R)
-
   room : length b.row ≤ CARDS
-  room = omega (arith, many, length-map (row_of m) (cell m IDS), row_length m R.is_row, row_few m R.is_row)
+  room = omega (arith, ap (λ (x : Board). length x.row) M.is, length_cards m R.is_row, few_cards m R.is_row)
 
   N : Noted m k
-  unfolding noting
-  N =
-      let n = leaves_pending m 3 in
-      put columns m (written n MORE_FROM 0 s.low) MORE_TO 0 s.high refl (λ _. omega (arith, low, room))
-      (put columns m n MORE_FROM 0 s.low refl (λ _. omega (arith, up, low, room)) (noted m m 3 (omega arith) (same columns m)))
+  N = noting_writes m s (λ _. omega (arith, up, low, room)) (λ _. omega (arith, low, room))
 
   is_more : pending k ≡ 3
   unfolding noting
@@ -74,7 +74,7 @@ module _ (m : List ℕ) (b : Board) (M : Means m b) (s : Span) (up : s.low ≤ s
       (omega (arith, M.long, length_written m PENDING 0 3, length_written n MORE_FROM 0 s.low))
 
   same_cards : cards k ≡ b.row
-  same_cards = (same_row columns m k N refl).same_cards ∙ sym (row_is m R) ∙ ap (λ (x : Board). x.row) (sym M.is)
+  same_cards = (same_row columns m k N refl).same_cards ∙ ap (λ (x : Board). x.row) (sym M.is)
 
   pub span_told : ToldSo m b s
   span_told =

@@ -1,6 +1,5 @@
 -- What is spanned by links between cards that are there is the part of the row that they name; if none goes backward, the row keeps them.
 use Rattle.std.proofs.Common.{◌≡◌, ℕ, ◌<◌, ◌≤◌, min, max, Bool, true, not, ◌&&◌, ◌||◌, ltb, leb, List, [], ◌∷◌, ◌++◌, length, sym, refl, ap, ◌∙◌, subst, inl, inr, arith, is_some, Some}
-use Rattle.std.proofs.lemmas.List.{length-map}
 use Rattle.std.proofs.lemmas.Bool.Decides.{nat_tests}
 use Rattle.std.proofs.lemmas.Bool.{cases_Bool, both_ways}
 use Rattle.order.specs.declared.board.TheConstants.{CARDS}
@@ -10,12 +9,10 @@ use Rattle.order.specs.Board.{Board, keeps}
 use Rattle.order.proofs.Climbs.{fine_parts}
 use Rattle.order.proofs.Filters.{every_append}
 use Rattle.order.proofs.Places.{place_below}
-use Rattle.memory.specs.Columns.{cell}
-use Rattle.row.specs.declared.layout.TheConstants.{IDS}
-use Rattle.row.specs.Meaning.{row_of}
+use Rattle.row.proofs.Present.{length_cards, few_cards}
 use Rattle.search.specs.Meaning.{Ready}
 use Rattle.keeper.specs.Meaning.{card_board}
-use Rattle.keeper.proofs.Knowing.{row_is, fine_cards}
+use Rattle.keeper.proofs.Knowing.{fine_cards}
 use Rattle.batch.specs.declared.seating.Span.{Span}
 use Rattle.batch.specs.declared.checking.Named.{Named}
 use Rattle.batch.specs.Dense.{Dense}
@@ -23,7 +20,6 @@ use Rattle.batch.specs.Several.{all_there, first_named, past_named}
 use Rattle.batch.specs.Checking.{widened, spanned, no_span, moving}
 use Rattle.batch.specs.CheckLaws.{Names, Spans, SpanMoves}
 use Rattle.batch.proofs.GoingOn.{there_parts}
-use Rattle.batch.proofs.Dense.{few_count, length_row}
 use Rattle.batch.proofs.CardsThere.{wider_so}
 
 past_inside : (r : Board) (ls : List Link) → all_there r ls ≡ true → past_named r ls ≤ length r.row
@@ -47,7 +43,7 @@ module _ (m : List ℕ) (R : Ready m) (D : Dense m) where
   r = card_board m
 
   few : length r.row ≤ CARDS
-  few = omega (arith, ap length (row_is m R), length-map (row_of m) (cell m IDS), length_row m D, few_count m D)
+  few = omega (arith, length_cards m R.is_row, few_cards m R.is_row)
 
   -- a span that is widened to the places of a link's two cards on the board
   abbrev with_places : Link → Named → Named

@@ -17,14 +17,14 @@ use Rattle.links.specs.Pairs.{joins}
 use Rattle.links.specs.Entries.{removed}
 use Rattle.links.specs.Table.{columns as table, edges, once}
 use Rattle.links.specs.Laws.{StaysOnce}
-use Rattle.links.proofs.Standing.{stays_once}
+use Rattle.links.proofs.Onces.{stays_once}
 use Rattle.links.proofs.Writing.{removed_writes}
 use Rattle.search.specs.Meaning.{slot_board, Ready}
 use Rattle.keeper.specs.Promise.{small_command}
 use Rattle.keeper.specs.Meaning.{card_board, Means}
-use Rattle.keeper.proofs.Knowing.{fine_cards, naming, ends_used}
+use Rattle.keeper.proofs.Knowing.{fine_cards, ends_used}
 use Rattle.keeper.proofs.Carrying.{unmarked, unmarked_kept, same_row, means_by}
-use Rattle.keeper.proofs.TwoCards.{Seated, has_row, seated, slots_there, linked_is}
+use Rattle.keeper.proofs.TwoCards.{Seated, seated, slots_there, linked_is}
 use Rattle.keeper.proofs.Unlinking.{law, fine_after, board_after}
 use Rattle.batch.specs.Several.{with_links}
 use Rattle.batch.specs.Joining.{dropped, taken_out}
@@ -63,7 +63,7 @@ once_named f D tell (x ∷ xs) h =
 once_cards : (m : List ℕ) (r : Board) → Means m r → once r.links ≡ true
 once_cards m r M =
     let R = M.ready in
-    ap (λ (b : Board). once b.links) M.is ∙ once_named (cell m IDS) (used m) (naming m R).tell (edges m) (ends_used m R) ∙ M.single
+    ap (λ (b : Board). once b.links) M.is ∙ once_named (cell m IDS) (used m) R.is_row.stands.one_slot (edges m) (ends_used m R) ∙ M.single
 
 -- one link
 abbrev without : Board → Link → Board
@@ -90,8 +90,8 @@ module _ (m : List ℕ) (M : Means m (card_board m)) (l : Link) (sm : small_comm
   drops =
       let r = card_board m in
       let p = link_ends r (fine_parts r (fine_cards m R)) l.from l.to h in
-      let A = seated m R l.from (sym (has_row m R l.from) ∙ p.0) in
-      let B = seated m R l.to (sym (has_row m R l.to) ∙ p.1) in
+      let A = seated m R l.from p.0 in
+      let B = seated m R l.to p.1 in
       by_slots A.0 B.0 A.1 B.1
 
 dropped_means : (m : List ℕ) (r : Board) (l : Link) → small_command (Links l) ≡ true → Means m r → linked r l.from l.to ≡ true →

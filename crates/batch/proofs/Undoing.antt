@@ -1,5 +1,5 @@
 -- Links that were tried are taken out again, and the row is seated as it was: the memory means the board that it meant before.
-use Rattle.std.proofs.Common.{None, ◌≡◌, ℕ, zero, suc, ◌+◌, ◌-◌, ◌≤◌, min, Bool, true, List, [], ◌∷◌, ◌++◌, length, take, refl, ◌∙◌, arith, Some}
+use Rattle.std.proofs.Common.{None, ◌≡◌, ℕ, zero, suc, ◌+◌, ◌-◌, ◌/◌, ◌%◌, ◌≤◌, min, Bool, true, ltb, List, [], ◌∷◌, ◌++◌, length, take, sym, refl, ap, ◌∙◌, arith, Some}
 use Rattle.std.proofs.lemmas.Bool.{and_parts, and_from}
 use Rattle.memory.specs.declared.column.TheConstants.{MEMORY}
 use Rattle.order.specs.declared.board.TheConstants.{CARDS}
@@ -7,9 +7,11 @@ use Rattle.order.specs.declared.board.Link.{Link}
 use Rattle.command.specs.declared.command.Command.TheVariants.{Link as Links}
 use Rattle.order.specs.Lists.{every}
 use Rattle.order.specs.Board.{Board}
-use Rattle.memory.specs.Footprints.{Writes, at_each}
+use Rattle.memory.specs.declared.column.Column.{Column}
+use Rattle.memory.specs.Footprints.{clear, Writes, at_each}
 use Rattle.memory.proofs.Footprints.{less, after}
-use Rattle.row.specs.declared.layout.TheConstants.{IDS, CHAIN}
+use Rattle.row.specs.declared.layout.TheConstants.{COUNT, IDS, CHAIN, TAKEN}
+use Rattle.row.specs.Meaning.{digit, bit_set, IsRow}
 use Rattle.links.specs.Table.{columns as table}
 use Rattle.keeper.specs.Promise.{small_command}
 use Rattle.keeper.specs.Meaning.{Means}
@@ -23,7 +25,7 @@ use Rattle.batch.specs.Seating.{reseated}
 use Rattle.batch.specs.Saying.{undone}
 use Rattle.batch.specs.UndoLaws.{put_aside, Covers, Undoes, UndoesNone}
 use Rattle.batch.proofs.Saving.{saves, saved_writes}
-use Rattle.batch.proofs.Dense.{few_count, dense_kept}
+use Rattle.batch.proofs.Denseness.{few}
 use Rattle.batch.proofs.Tries.{means_fine}
 use Rattle.batch.proofs.SeveralBetween.{several_between}
 use Rattle.batch.proofs.Ends.{SameEnds, ends_within}
@@ -35,6 +37,14 @@ first_within : (r : Board) (ls : List Link) → first_named r ls ≤ length r.ro
 unfolding first_named
 first_within r [] = omega arith
 first_within r (l ∷ ls) = omega (arith, first_within r ls)
+
+-- a row stays without gaps where nobody comes or goes
+still_dense : (fs : List Column) (m m' : List ℕ) → clear fs COUNT ≡ true → clear fs TAKEN ≡ true → Writes fs m m' → IsRow m' → Dense m → Dense m'
+unfolding bit_set
+still_dense fs m m' c t w R D = record {
+  is_row = R;
+  full = λ p. ap (λ (v : ℕ). digit v (p % 64)) (w.others TAKEN (p / 64) t) ∙ D.full p ∙ ap (ltb p) (sym (w.others COUNT 0 c));
+}
 
 -- the links that were put in are ks
 module _ (m : List ℕ) (r : Board) (ls ks : List Link) (s : Span) (row : List ℕ) (M : Means m r) (D : Dense m) (sm : every (λ l. small_command (Links l)) ks ≡ true)
@@ -55,10 +65,10 @@ module _ (m : List ℕ) (r : Board) (ls ks : List Link) (s : Span) (row : List �
   m₃ = taken_out m₂ ks
 
   room : length r.row ≤ CARDS
-  room = omega (arith, row_count m r M D, few_count m D)
+  room = omega (arith, row_count m r M, few m D)
 
-  few : lo + size ≤ length r.row
-  few = omega (arith, C.lower, first_within r ks, C.within)
+  inside : lo + size ≤ length r.row
+  inside = omega (arith, C.lower, first_within r ks, C.within)
 
   ends : SameEnds lo (lo + size) row r.row
   ends =
@@ -81,15 +91,15 @@ module _ (m : List ℕ) (r : Board) (ls ks : List Link) (s : Span) (row : List �
     aside : Aside m m₃ lo size
     aside = record {
       dense = D;
-      dense_since = dense_kept (SPARE ∷ tried_columns) m m₃ refl refl refl frame M₃.ready.is_row D;
+      dense_since = still_dense (SPARE ∷ tried_columns) m m₃ refl refl frame M₃.ready.is_row D;
       same_ids = λ j. frame.others IDS j refl;
       same_chain = λ j. frame.others CHAIN j refl;
-      aside = λ p l u. tried_frame.others SPARE p refl ∙ (saves m lo size (omega arith)).0 p l u (omega (arith, few, room));
+      aside = λ p l u. tried_frame.others SPARE p refl ∙ (saves m lo size (omega arith)).0 p l u (omega (arith, inside, room));
     }
 
     pub undone_so : Means (undone m₂ ks (Some s)) r
     unfolding undone
-    undone_so = seated_back m m₃ r row lo size M M₃ aside few ends (several_between r ks row (means_fine m r M) t b).same_cards
+    undone_so = seated_back m m₃ r row lo size M M₃ aside inside ends (several_between r ks row (means_fine m r M) t b).same_cards
 
 -- what is so of links is so of the first of them
 every_front : (f : Link → Bool) (n : ℕ) (ls : List Link) → every f ls ≡ true → every f (take n ls) ≡ true

@@ -4,7 +4,6 @@ pub mod Rule
 pub mod RuleLaws
 pub mod Layout
 pub mod Listing
-pub mod Dense
 pub mod Joining
 pub mod JoinLaws
 pub mod CheckLaws
@@ -29,3 +28,6 @@ pub mod Loading
 pub mod Circling
 pub mod MakingAnew
 pub mod AnewLaws
+pub mod Dense
+pub mod Along
+pub mod Columns

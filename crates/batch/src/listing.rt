@@ -3,12 +3,12 @@ ghost use Rattle.std.specs.Prelude.{◌≡◌, ◌-◌};
 ghost use Rattle.batch.specs.Arranging.{filled};
 ghost use Rattle.batch.specs.Listing.{Says};
 
-use memory::Column;
+use memory::{Column, Memory};
 use std::ops::Range;
 
 // Writes what `value` says of the memory and a place to the column at that place, for each of the places.
-pub(crate) fn fill<F: Fn(&[u64], u64) -> u64>(
-    memory: &mut [u64],
+pub(crate) fn fill<F: Fn(&Memory, u64) -> u64>(
+    memory: &mut Memory,
     column: Column,
     places: Range<u64>,
     value: F,

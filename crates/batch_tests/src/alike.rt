@@ -4,7 +4,8 @@ use crate::cases::{Said, link};
 use crate::player::Player;
 use batch::Event;
 use keeper::Act;
-use row::{Command, Link, Refusal};
+use command::Command;
+use order::{Link, Refusal};
 use std::process::Abort;
 use std::test::Fail;
 

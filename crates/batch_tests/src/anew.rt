@@ -3,7 +3,7 @@ use crate::cases::link;
 use crate::player::Player;
 use batch::Event;
 use keeper::{Act, Reason};
-use row::Link;
+use order::Link;
 use std::process::Abort;
 use std::test::Fail;
 

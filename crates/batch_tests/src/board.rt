@@ -1,7 +1,8 @@
 // What a memory has of a board: its row, and its links, the oldest first.
 use keeper::{read_row, slots_of};
 use links::{find, from_of, to_of, used};
-use row::{CARDS, IDS, Link};
+use order::{CARDS, Link};
+use row::IDS;
 use std::process::Abort;
 use std::test::Fail;
 

@@ -3,7 +3,7 @@ use crate::board::Board;
 use crate::player::Player;
 use batch::Event;
 use keeper::{Act, Reason};
-use row::{Link, Refusal};
+use order::{Link, Refusal};
 use std::process::Abort;
 use std::test::Fail;
 

@@ -3,7 +3,8 @@ use crate::cases::{Due, EXISTS, FULL, MISSING, check, link};
 use crate::player::Player;
 use batch::Event;
 use keeper::Act;
-use row::{Command, Link};
+use command::Command;
+use order::Link;
 use std::process::Abort;
 use std::test::Fail;
 

@@ -2,7 +2,7 @@
 use crate::cases::{Due, EXISTS, FULL, MISSING, is_turned, link};
 use batch::{Anew, make_anew};
 use keeper::{MEMORY, OUTPUT, Reason};
-use row::Link;
+use order::Link;
 use std::process::Abort;
 use std::test::Fail;
 

@@ -3,7 +3,8 @@ use crate::cases::link;
 use crate::player::Player;
 use batch::{Event, make_anew, step};
 use keeper::{Act, MEMORY, OUTPUT, Reason};
-use row::{Command, Link, Refusal};
+use command::Command;
+use order::{Link, Refusal};
 use std::process::Abort;
 use std::test::Fail;
 

@@ -4,7 +4,8 @@
 use crate::board::{Board, has, row_of};
 use batch::{Event, play, step};
 use keeper::{Act, MEMORY, OUTPUT, Reason};
-use row::{Command, Link};
+use command::Command;
+use order::Link;
 use std::process::Abort;
 use std::test::Fail;
 

@@ -1,7 +1,7 @@
 // Several links said at once.
 use crate::cases::{Due, EXISTS, FULL, MISSING, check, link};
 use crate::player::Player;
-use row::Link;
+use order::Link;
 use std::test::Fail;
 
 // On a board of six cards in their order, with 0 before 1 and 3 before 4.

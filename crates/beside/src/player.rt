@@ -4,7 +4,8 @@ use crate::numbers::Numbers;
 use crate::saying::{Pair, Saying};
 use batch::{Event, play, step};
 use keeper::{Act, MEMORY, OUTPUT, Reason, read_row};
-use row::{Command, Link};
+use command::Command;
+use order::Link;
 use std::alloc::{AllocError, Global};
 
 // The lent memory and output; the links that are said at once; the row as the caller keeps it, and as it is read.

@@ -21,11 +21,11 @@
 --   Next bs o rest     who reads saying by saying has o next, and then what is left
 use Rattle.std.specs.Prelude.{◌≡◌, ℕ, zero, suc, ◌+◌, ◌*◌, cond, List, [], ◌∷◌, length, drop, map, Some, None, Option, option_map, Ok, Err, Result, ◌==◌, nat_le, nat_lt, slice_index}
 use Rattle.std.specs.Borrow.{Bor}
-use Rattle.row.specs.declared.board.Link.{Link}
-use Rattle.row.specs.declared.board.Command.{Command}
-use Rattle.row.specs.declared.board.Command.TheVariants.{Comes, Goes, Link as Links, Unlink as Unlinks, Places}
-use Rattle.row.specs.Board.{◌⟶◌}
-use Rattle.row.specs.Lookup.{given}
+use Rattle.order.specs.declared.board.Link.{Link}
+use Rattle.command.specs.declared.command.Command.{Command}
+use Rattle.command.specs.declared.command.Command.TheVariants.{Comes, Goes, Link as Links, Unlink as Unlinks, Places}
+use Rattle.order.specs.Board.{◌⟶◌}
+use Rattle.memory.specs.Options.{given}
 use Rattle.batch.specs.Engine.{Saying, one, several, anew}
 use Rattle.board.specs.declared.sayings.Saying.{Saying as Read}
 use Rattle.board.specs.declared.sayings.Saying.TheVariants.{One, Several, Anew}

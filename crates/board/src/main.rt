@@ -13,7 +13,7 @@ use anyhow::Context;
 use batch::play;
 use keeper::{MEMORY, OUTPUT, Played, read_row};
 use program::Program;
-use row::Link;
+use order::Link;
 use sayings::{Saying, Sayings};
 use std::alloc::AllocError;
 use std::env;

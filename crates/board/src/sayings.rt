@@ -6,7 +6,8 @@ ghost use Rattle.board.specs.Sayings.{card_at, cards_at, several_in, how_many, l
 ghost use Rattle.board.specs.declared.sayings.SayingError.TheVariants.{Cut};
 
 use batch::Event;
-use row::{Command, Link};
+use command::Command;
+use order::Link;
 use std::alloc::AllocError;
 use thiserror::Error;
 

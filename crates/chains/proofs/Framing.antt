@@ -12,6 +12,7 @@ use Rattle.chains.specs.Tables.{node, at, put, pushed, unhooked, cleared}
 use Rattle.chains.specs.Chains.{Spells, Holds}
 use Rattle.chains.specs.Walks.{met, walked, met_by, walked_by}
 use Rattle.chains.proofs.Packing.{encoded_word}
+use Rattle.chains.proofs.Walking.{Leads}
 
 pub spells_same : (F : ChainTable) (f f' : ℕ → Cell) → ((p : ℕ) → f' p ≡ f p) → (xs : List Pointer) (p : ℕ) → Spells F f p xs → Spells F f' p xs
 spells_same F f f' e [] p s = ap (λ (i : Cell). i.next.held) (e p) ∙ s
@@ -26,6 +27,10 @@ holds_same F m m' chains e l h = record {
   headed = h.headed;
   spelled = λ k b. spells_same F (at F m) (at F m') (λ (p : ℕ). ap decoded (e p)) (chains k) k (h.spelled k b);
 }
+
+pub leads_same : (F : ChainTable) (f f' : ℕ → Cell) → ((p : ℕ) → f' p ≡ f p) → (xs : List Pointer) (p : ℕ) → Leads F f p xs → Leads F f' p xs
+leads_same F f f' e [] p s = ap (λ (i : Cell). i.next.held) (e p) ∙ s
+leads_same F f f' e (x ∷ xs) p s = (ap (λ (i : Cell). i.next) (e p) ∙ s.0, s.1, leads_same F f f' e xs (node F x.held) s.2)
 
 -- what is so after something was written that is clear of the table
 module _ (F : ChainTable) (fs : List Column) (c : clear fs F.cells ≡ true) (m n : List ℕ) (w : Writes fs m n) where
@@ -43,6 +48,9 @@ module _ (F : ChainTable) (fs : List Column) (c : clear fs F.cells ≡ true) (m 
 
   pub walked_kept : (f p : ℕ) → walked f F n p ≡ walked f F m p
   walked_kept f p = ap (λ (g : ℕ → ℕ). walked_by f F g p) column_kept
+
+  pub leads_kept : (xs : List Pointer) (p : ℕ) → Leads F (at F m) p xs → Leads F (at F n) p xs
+  leads_kept xs p s = leads_same F (at F m) (at F n) (λ (q : ℕ). ap decoded (cells_kept q)) xs p s
 
 -- what the operations write
 module _ (F : ChainTable) (m : List ℕ) where

@@ -2,7 +2,7 @@
 use crate::lengths::SPARE;
 use keeper::{MEMORY, OUTPUT};
 use links::ENTRIES;
-use row::Link;
+use order::Link;
 
 // The memory and the output; the links that are said at once; and the entries in an order.
 #[derive(Drop)]

@@ -7,7 +7,7 @@ use crate::plausible::{dent, fill_all};
 use crate::sound::play_some;
 use crate::tallies::set_tallies;
 use links::OUT;
-use row::CARDS;
+use order::CARDS;
 use std::alloc::AllocError;
 
 fn fill_random(memory: &mut [u64], dice: &mut Dice) {

@@ -4,7 +4,9 @@ use crate::dice::Dice;
 use crate::plausible::card_of;
 use keeper::LINKS;
 use links::{END, ENTRIES, FROM, IN, LIVE, OUT, PAIR, TO};
-use row::{CARDS, CHAINS, COUNT, Column, FRESH, Family, IDS, Link, TALLY, seat};
+use memory::Column;
+use order::{CARDS, Link};
+use row::{CHAINS, COUNT, FRESH, Family, IDS, TALLY, seat};
 use search::{FORE, HIND};
 
 // Where the links lead: nowhere, since all are dead; from any slot to any; or from odd slots to even ones, but for the first and the last MARGIN slots, so that

@@ -3,7 +3,7 @@ use crate::events;
 use crate::kind::Kind;
 use crate::taken::Taken;
 use keeper::{Act, Reason};
-use row::Refusal;
+use order::Refusal;
 use std::alloc::{AllocError, Global};
 use std::{fmt, io};
 

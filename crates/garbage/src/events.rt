@@ -3,7 +3,9 @@ use crate::dice::Dice;
 use crate::plausible::card_of;
 use batch::Event;
 use keeper::Pending;
-use row::{CARDS, Command, IDS, Link, SLOTS, len};
+use command::Command;
+use order::{CARDS, Link};
+use row::{IDS, SLOTS, len};
 use std::alloc::AllocError;
 
 // A card that stands in the row, mostly; or one of some bucket, or with a small number, or any.

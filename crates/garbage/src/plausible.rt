@@ -1,7 +1,9 @@
 // What may stand in the columns of a sound memory.
 use crate::dice::Dice;
 use links::{ENTRIES, FROM, IN, OUT, PAIR, TO};
-use row::{CARDS, CHAINS, Column, IDS, PLACES, SLOTS};
+use memory::Column;
+use order::CARDS;
+use row::{CHAINS, IDS, PLACES, SLOTS};
 use search::{FORE, HIND};
 
 // The card whose bucket has the number of the slot: the buckets are the fronts of the cards' numbers spread by a factor, and this undoes it.

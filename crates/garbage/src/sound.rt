@@ -5,7 +5,7 @@ use crate::events;
 use crate::plausible::card_of;
 use batch::{Event, play};
 use keeper::MEMORY;
-use row::Command;
+use command::Command;
 use std::alloc::AllocError;
 
 fn say(bench: &mut Bench, event: Event) {

@@ -2,7 +2,7 @@
 use crate::kind::Kind;
 use batch::Event;
 use keeper::{Act, Reason};
-use row::CARDS;
+use order::CARDS;
 use std::fmt;
 use std::time::Duration;
 

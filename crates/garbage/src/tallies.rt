@@ -2,7 +2,8 @@
 use crate::dice::Dice;
 use keeper::{LINKS, Pending};
 use links::{END, ENTRIES, LIVE};
-use row::{CARDS, COUNT, FRESH, TALLY};
+use order::CARDS;
+use row::{COUNT, FRESH, TALLY};
 
 // A small number, mostly; or one below a limit, at it, near it, or any.
 fn about(limit: u64, dice: &mut Dice) -> u64 {

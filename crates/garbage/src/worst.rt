@@ -10,7 +10,7 @@ use anyhow::Context;
 use batch::{Event, step};
 use keeper::MEMORY;
 use links::ENTRIES;
-use row::{CARDS, Link};
+use order::{CARDS, Link};
 use std::time::CpuClock;
 
 // Puts into the batch links from each of the last cards to each of the first, as many as may be said at once.

@@ -1,14 +1,15 @@
 -- A link that goes backward, found to go round: the way is shown, and the memory means the same board.
 use Rattle.std.proofs.Common.{◌≡◌, ℕ, true, false, List, map, length, replicate, sym, refl, ap, ◌∙◌, subst, ap₂, arith}
-use Rattle.row.specs.declared.board.Link.{Link}
-use Rattle.row.specs.declared.board.Command.TheVariants.{Link as Links}
-use Rattle.row.specs.Lists.{any, has}
-use Rattle.row.specs.Board.{Board, ◌⟶◌, leads, fine}
-use Rattle.row.specs.Commands.{refusal, goes_round}
-use Rattle.row.specs.Columns.{cell}
+use Rattle.order.specs.declared.board.Link.{Link}
+use Rattle.command.specs.declared.command.Command.TheVariants.{Link as Links}
+use Rattle.order.specs.Lists.{any, has}
+use Rattle.order.specs.Board.{Board, ◌⟶◌, leads, fine}
+use Rattle.command.specs.Commands.{refusal}
+use Rattle.order.specs.Reordering.{link_refusal, goes_round}
+use Rattle.memory.specs.Columns.{cell}
 use Rattle.row.specs.Layout.{tally, ids, chain, slots, places}
 use Rattle.row.specs.Meaning.{row_of, cards}
-use Rattle.row.specs.Renaming.{named}
+use Rattle.order.specs.Renaming.{named}
 use Rattle.row.proofs.Depending.{depends}
 use Rattle.row.proofs.Named.{cards_named}
 use Rattle.links.specs.Entries.{joins}
@@ -42,7 +43,7 @@ use Rattle.search.specs.Layout.{fore, hind}
 use Rattle.search.specs.Hunt.{meeting}
 use Rattle.search.specs.Settle.{forgotten}
 use Rattle.search.specs.WayLaws.{way_of, Round}
-use Rattle.search.specs.MarkLaws.{Summed}
+use Rattle.memory.specs.PlaceSetLaws.{Summed}
 use Rattle.search.specs.Meaning.{Kept, Trailed}
 use Rattle.search.specs.SettleLaws.{Unmarked, OnlySets}
 use Rattle.search.proofs.SettleFrames.{forgets}
@@ -157,7 +158,7 @@ module _ (m : List ℕ) (R : Ready m) (o : once (edges m) ≡ true) (i : pending
         ((names m R).way_named s t (way_of m₁ s t y.from y.to) W.cards W.round)))
 
     pub round : said m (Links l) ≡ shown_round m₁ x y → StepKept own 3 Means m r (Links l)
-    unfolding refusal shown_round
+    unfolding refusal link_refusal shown_round
     round se =
         let m₂ = leaves_pending q' 2 in
         let ld : leads r l.to l.from ≡ true = leads_is m R l.from l.to s t A B ∙ T.round in

@@ -1,21 +1,22 @@
 -- A card comes: the memory means the board with one card more.
 use Rattle.std.proofs.Common.{◌≡◌, ℕ, ◌<◌, ◌≤◌, Bool, true, false, ◌&&◌, List, [], ◌∷◌, ◌++◌, map, length, Ok, sym, refl, ap, ◌∙◌, subst, ap₂, inl, inr, arith}
 use Rattle.std.proofs.lemmas.Bool.{cases_Bool, cases_lt, le-leb, lt-leb, and_parts, both_ways}
-use Rattle.row.specs.declared.board.Link.{Link}
-use Rattle.row.specs.declared.board.Command.TheVariants.{Comes}
-use Rattle.row.specs.declared.board.Refusal.TheVariants.{Exists, Full}
-use Rattle.row.specs.Lists.{every, has}
-use Rattle.row.specs.Board.{Board, fine}
-use Rattle.row.specs.Commands.{refusal, may_be, row_before, links_after}
-use Rattle.row.specs.Columns.{cell}
+use Rattle.order.specs.declared.board.Link.{Link}
+use Rattle.command.specs.declared.command.Command.TheVariants.{Comes}
+use Rattle.order.specs.declared.board.Refusal.TheVariants.{Exists, Full}
+use Rattle.order.specs.Lists.{every, has}
+use Rattle.order.specs.Board.{Board, fine}
+use Rattle.order.specs.Reordering.{link_may_be, link_refusal}
+use Rattle.command.specs.Commands.{refusal, may_be, row_before, links_after}
+use Rattle.memory.specs.Columns.{cell}
 use Rattle.row.specs.Layout.{ids, slots, count}
 use Rattle.std.proofs.lemmas.List.FromFn.{length-map-range_with_len}
 use Rattle.row.specs.Moves.{Outcome, came}
 use Rattle.row.specs.Meaning.{used, row_of, cards}
-use Rattle.row.specs.Renaming.{named}
+use Rattle.order.specs.Renaming.{named}
 use Rattle.row.specs.Laws.{Came, OnlyRow}
-use Rattle.row.proofs.Filters.{same_itself}
-use Rattle.row.proofs.Staying.{stays}
+use Rattle.order.proofs.Filters.{same_itself}
+use Rattle.command.proofs.Staying.{stays}
 use Rattle.row.proofs.Present.{length_cards}
 use Rattle.row.proofs.Named.{cards_named}
 use Rattle.row.proofs.Coming.{comes_appends}
@@ -55,14 +56,14 @@ module _ (m : List ℕ) (R : Ready m) (o : once (edges m) ≡ true) (i : pending
   length_row = ap length (row_is m R)
 
   exists : has (cards m) k ≡ true → StepKept own 3 Means m r (Comes k)
-  unfolding refusal said
+  unfolding refusal link_refusal said
   exists h =
       let e = (comes_appends m k R.stands).0 h in
       refuses_kept Means m m r (Comes k) Exists i sm (rw (has_row ∙ h)) exists_is_not
       (ap (λ (x : Outcome). quiet (ended x.answer x.memory)) e) (record { ready = R; single = o; idle = i; is = refl })
 
   full : has (cards m) k ≡ false → 8192 ≤ length (cards m) → StepKept own 3 Means m r (Comes k)
-  unfolding refusal said
+  unfolding refusal link_refusal said
   full n h =
       let e = (comes_appends m k R.stands).1 n h in
       refuses_kept Means m m r (Comes k) Full i sm (rw (has_row ∙ n, le-leb 8192 (length r.row) (omega (arith, length_row)))) full_is_not
@@ -85,7 +86,7 @@ module _ (m : List ℕ) (R : Ready m) (o : once (edges m) ≡ true) (i : pending
     same_edges = edges_alike m m' (row_alike m m' only).same
 
     fine_after : fine (slot_board m') ≡ true
-    unfolding refusal may_be row_before links_after
+    unfolding refusal link_refusal may_be link_may_be row_before links_after
     fine_after =
         let s = law.0 in
         let x = slot_board m in
@@ -115,7 +116,7 @@ module _ (m : List ℕ) (R : Ready m) (o : once (edges m) ≡ true) (i : pending
     }
 
     comes_in : StepKept own 3 Means m r (Comes k)
-    unfolding refusal said
+    unfolding refusal link_refusal said
     comes_in =
         comes_kept own 3 Means m r m' (fine_cards m R) k (rw (has_row ∙ n, lt-leb 8192 (length r.row) (omega (arith, length_row))))
         (run_done m m' (Comes k) i sm (rw law.1 refl)) means

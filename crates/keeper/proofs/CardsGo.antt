@@ -1,20 +1,21 @@
 -- A card goes: the memory means the board without it and its links.
 use Rattle.std.proofs.Common.{◌≡◌, ℕ, true, false, not, ◌||◌, eqb, List, [], ◌∷◌, map, Ok, sym, refl, ap, ◌∙◌, subst, ap₂, inl, inr, arith}
 use Rattle.std.proofs.lemmas.Bool.{cases_Bool}
-use Rattle.row.specs.declared.board.Link.{Link}
-use Rattle.row.specs.declared.board.Command.TheVariants.{Goes}
-use Rattle.row.specs.declared.board.Refusal.TheVariants.{Missing}
-use Rattle.row.specs.Lists.{has, filter}
-use Rattle.row.specs.Board.{Board, fine}
-use Rattle.row.specs.Commands.{refusal, may_be, row_before, links_after}
-use Rattle.row.specs.Columns.{cell}
+use Rattle.order.specs.declared.board.Link.{Link}
+use Rattle.command.specs.declared.command.Command.TheVariants.{Goes}
+use Rattle.order.specs.declared.board.Refusal.TheVariants.{Missing}
+use Rattle.order.specs.Lists.{has, filter}
+use Rattle.order.specs.Board.{Board, fine}
+use Rattle.order.specs.Reordering.{link_may_be, link_refusal}
+use Rattle.command.specs.Commands.{refusal, may_be, row_before, links_after}
+use Rattle.memory.specs.Columns.{cell}
 use Rattle.row.specs.Layout.{ids}
 use Rattle.row.specs.Moves.{gone}
 use Rattle.row.specs.Meaning.{used, row_of, cards, Stands}
-use Rattle.row.specs.Renaming.{named}
+use Rattle.order.specs.Renaming.{named}
 use Rattle.row.specs.Laws.{Gone, OnlyRow}
-use Rattle.row.proofs.Filters.{same_itself}
-use Rattle.row.proofs.Staying.{stays}
+use Rattle.order.proofs.Filters.{same_itself}
+use Rattle.command.proofs.Staying.{stays}
 use Rattle.row.proofs.Named.{cards_named}
 use Rattle.row.proofs.Going.{goes_filters}
 use Rattle.row.proofs.Depending.{depends}
@@ -52,7 +53,7 @@ module _ (m : List ℕ) (R : Ready m) (o : once (edges m) ≡ true) (i : pending
   has_row = ap (λ (xs : List ℕ). has xs k) (row_is m R)
 
   missing : has (cards m) k ≡ false → StepKept own 3 Means m r (Goes k)
-  unfolding refusal said
+  unfolding refusal link_refusal said
   missing n =
       let e = (goes_filters m k R.stands).0 n in
       refuses_kept Means m m r (Goes k) Missing i sm (rw (has_row ∙ n)) missing_is_not (rw e refl) (record { ready = R; single = o; idle = i; is = refl })
@@ -95,7 +96,7 @@ module _ (m : List ℕ) (R : Ready m) (o : once (edges m) ≡ true) (i : pending
     same_ids t = (links_same m₁ m' only).same_ids t ∙ G.same_cards t
 
     fine_after : fine (slot_board m') ≡ true
-    unfolding refusal may_be row_before links_after
+    unfolding refusal link_refusal may_be link_may_be row_before links_after
     fine_after =
         let x = slot_board m in
         let f = stays x (Goes s) (filter (λ j. not (eqb j s)) (row_of m)) R.fine_so (rw (has_slot m R.stands s G.was_used)) (same_itself _) (goes_keeps x R.fine_so s) in
@@ -125,7 +126,7 @@ module _ (m : List ℕ) (R : Ready m) (o : once (edges m) ≡ true) (i : pending
     }
 
     goes_out : StepKept own 3 Means m r (Goes k)
-    unfolding refusal said
+    unfolding refusal link_refusal said
     goes_out = goes_kept own 3 Means m r m' (fine_cards m R) k (rw (has_row ∙ h)) (run_done m m' (Goes k) i sm (rw law.1 refl)) means
 
   pub goes_means : StepKept own 3 Means m r (Goes k)

@@ -1,11 +1,11 @@
 -- What an operation on the row leaves of the links and the marks, and what one on the links leaves of the row and the marks.
 use Rattle.std.proofs.Common.{◌≡◌, ℕ, ◌≤◌, true, List, length, refl, ◌∙◌, arith}
-use Rattle.row.specs.Board.{fine}
-use Rattle.row.specs.Columns.{cell, written}
+use Rattle.order.specs.Board.{fine}
+use Rattle.memory.specs.Columns.{cell, written}
 use Rattle.row.specs.Layout.{tally, ids, chain, slots, places}
 use Rattle.row.specs.Meaning.{Stands}
 use Rattle.row.specs.Laws.{OnlyRow, SameRow}
-use Rattle.row.proofs.Cells.{length_written, cell_other, cell_apart}
+use Rattle.memory.proofs.Cells.{length_written, cell_other, cell_apart}
 use Rattle.links.specs.declared.chain.Chain.{Chain}
 use Rattle.links.specs.declared.chain.Chain.TheVariants.{Out, In, Pair}
 use Rattle.links.specs.Layout.{pointers, froms, tos}

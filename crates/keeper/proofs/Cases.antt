@@ -1,16 +1,17 @@
 -- One command at its end, from the record of its run: for each command that is done, for a refusal, and for a link that would go round.
 use Rattle.std.proofs.Common.{◌≡◌, ℕ, suc, true, false, not, ◌&&◌, ◌||◌, eqb, ◌≢◌, List, [], ◌∷◌, ◌++◌, Some, None, refl, arith}
 use Rattle.std.proofs.lemmas.Bool.{both_ways}
-use Rattle.row.specs.declared.board.Link.{Link}
-use Rattle.row.specs.declared.board.Command.{Command}
-use Rattle.row.specs.declared.board.Command.TheVariants.{Comes, Goes, Link as Links, Unlink as Unlinks, Places}
-use Rattle.row.specs.declared.board.Refusal.{Refusal}
-use Rattle.row.specs.declared.board.Refusal.TheVariants.{Cycle}
-use Rattle.row.specs.Lists.{every, filter, place}
-use Rattle.row.specs.Board.{Board, keeps, fine}
-use Rattle.row.specs.Commands.{number, refusal, Told, told_rows, row_before, links_after, after, with_link, backward, firm, must_be, goes_round}
-use Rattle.row.proofs.Filters.{same_itself}
-use Rattle.row.proofs.Climbs.{fine_parts}
+use Rattle.order.specs.declared.board.Link.{Link}
+use Rattle.command.specs.declared.command.Command.{Command}
+use Rattle.command.specs.declared.command.Command.TheVariants.{Comes, Goes, Link as Links, Unlink as Unlinks, Places}
+use Rattle.order.specs.declared.board.Refusal.{Refusal}
+use Rattle.order.specs.declared.board.Refusal.TheVariants.{Cycle}
+use Rattle.order.specs.Lists.{every, filter, place}
+use Rattle.order.specs.Board.{Board, keeps, fine}
+use Rattle.order.specs.Reordering.{link_must_be, number, with_link, backward, firm, goes_round}
+use Rattle.command.specs.Commands.{refusal, Told, told_rows, row_before, links_after, after, must_be}
+use Rattle.order.proofs.Filters.{same_itself}
+use Rattle.order.proofs.Climbs.{fine_parts}
 use Rattle.keeper.specs.Engine.{Engine, Ran, ran, run_of}
 use Rattle.keeper.specs.Promise.{shown_for, Refused, RoundShown}
 use Rattle.keeper.specs.Sister.{within, ToldNeeded, DoneFirm}
@@ -43,7 +44,7 @@ module _ (e : Engine) (n : ℕ) (Sim : List ℕ → Board → Type 0) (m : List 
     module _ (f : fine r ≡ true) where
       pub comes_kept : (k : ℕ) → refusal r (Comes k) ≡ None → run_of n e m (Comes k) ≡ ran m₁ [] [] 0 →
           Sim m₁ (record { row = r.row ++ k ∷ []; links = r.links }) → StepKept e n Sim m r (Comes k)
-      unfolding DoneFirm shown_for must_be told_rows row_before links_after ToldNeeded
+      unfolding DoneFirm shown_for must_be link_must_be told_rows row_before links_after ToldNeeded
       comes_kept k z q s = kept_done (Comes k) _ q z (refl, refl, same_itself _, comes_keeps r f k, refl) s
 
       pub goes_kept : (k : ℕ) → refusal r (Goes k) ≡ None → run_of n e m (Goes k) ≡ ran m₁ [] [] 0 →
@@ -51,24 +52,24 @@ module _ (e : Engine) (n : ℕ) (Sim : List ℕ → Board → Type 0) (m : List 
             row = filter (λ j. not (eqb j k)) r.row;
             links = filter (λ l. not (eqb l.from k || eqb l.to k)) r.links;
           }) → StepKept e n Sim m r (Goes k)
-      unfolding DoneFirm shown_for must_be told_rows row_before links_after ToldNeeded
+      unfolding DoneFirm shown_for must_be link_must_be told_rows row_before links_after ToldNeeded
       goes_kept k z q s = kept_done (Goes k) _ q z (refl, refl, same_itself _, goes_keeps r f k, refl) s
 
       pub unlinks_kept : (l : Link) → refusal r (Unlinks l) ≡ None → run_of n e m (Unlinks l) ≡ ran m₁ [] [] 0 →
           Sim m₁ (record { row = r.row; links = filter (λ x. not (eqb x.from l.from && eqb x.to l.to)) r.links }) →
           StepKept e n Sim m r (Unlinks l)
-      unfolding DoneFirm shown_for must_be told_rows row_before links_after ToldNeeded
+      unfolding DoneFirm shown_for must_be link_must_be told_rows row_before links_after ToldNeeded
       unlinks_kept l z q s = kept_done (Unlinks l) _ q z (refl, refl, same_itself _, unlinks_keeps r f l.from l.to, refl) s
 
       pub places_kept : (a b : ℕ) → refusal r (Places a b) ≡ None →
           run_of n e m (Places a b) ≡ ran m₁ [] ((place r.row a ∷ place r.row b ∷ []) ∷ []) 0 → Sim m₁ r → StepKept e n Sim m r (Places a b)
-      unfolding DoneFirm shown_for must_be told_rows row_before links_after ToldNeeded
+      unfolding DoneFirm shown_for must_be link_must_be told_rows row_before links_after ToldNeeded
       places_kept a b z q s = kept_done (Places a b) _ q z (refl, refl, same_itself _, (fine_parts r f).kept, refl) s
 
       -- a link that doesn't go backward
       pub forward_kept : (l : Link) → refusal r (Links l) ≡ None → backward r l.from l.to ≡ false → run_of n e m (Links l) ≡ ran m₁ [] [] 0 →
           Sim m₁ (record { row = r.row; links = with_link r l.from l.to }) → StepKept e n Sim m r (Links l)
-      unfolding DoneFirm shown_for must_be told_rows row_before links_after ToldNeeded
+      unfolding DoneFirm shown_for must_be link_must_be told_rows row_before links_after ToldNeeded
       forward_kept l z b q s =
           kept_done (Links l) _ q z
           (refl, refl, rw b (same_itself _), forward_keeps r f l.from l.to z b, ((λ _. refl), λ x. absurd (both_ways _ b x))) s
@@ -78,6 +79,6 @@ module _ (e : Engine) (n : ℕ) (Sim : List ℕ → Board → Type 0) (m : List 
         keeps new (with_link r l.from l.to) ≡ true → (ts : List Told) → told_rows r.row ts ≡ new →
         every (within (place r.row l.to) (suc (place r.row l.from))) ts ≡ true → run_of n e m (Links l) ≡ ran m₁ ts [] 0 →
         Sim m₁ (record { row = new; links = with_link r l.from l.to }) → StepKept e n Sim m r (Links l)
-    unfolding DoneFirm shown_for must_be row_before links_after ToldNeeded
+    unfolding DoneFirm shown_for must_be link_must_be row_before links_after ToldNeeded
     backward_by l z b new fm ke ts t w q s =
         kept_done (Links l) _ q z (refl, refl, rw (b, t) fm, rw t ke, ((λ x. absurd (both_ways _ x b)), λ _. w)) (rw t s)

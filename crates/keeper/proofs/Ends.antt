@@ -1,7 +1,7 @@
 -- A run that is at its end stays so with more steps; and a run keeps the memory's size.
 use Rattle.std.proofs.Common.{◌≡◌, ℕ, zero, suc, ◌+◌, leb, List, [], length, sym, refl, ap, ◌∙◌, inl, inr, arith}
 use Rattle.std.proofs.lemmas.Bool.{cases_Bool}
-use Rattle.row.specs.Commands.{Told}
+use Rattle.command.specs.Commands.{Told}
 use Rattle.keeper.specs.declared.event.Event.{Event}
 use Rattle.keeper.specs.declared.event.Event.TheVariants.{Said, Next}
 use Rattle.keeper.specs.Engine.{Action, tells, shows, done, refused, Engine, Ran, one_act, runs}

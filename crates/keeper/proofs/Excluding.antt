@@ -2,9 +2,10 @@
 use Rattle.std.proofs.Common.{◌≡◌, ℕ, zero, suc, leb, ◌≢◌, List, [], ◌∷◌, length, refl, inl, inr, arith}
 use Rattle.std.proofs.lemmas.Bool.{cases_Bool}
 use Rattle.std.proofs.lemmas.Bool.Decides.{nat_tests as tests}
-use Rattle.row.specs.declared.board.Command.TheVariants.{Comes}
-use Rattle.row.specs.Lists.{every, any}
-use Rattle.row.specs.Commands.{Told, refusal}
+use Rattle.command.specs.declared.command.Command.TheVariants.{Comes}
+use Rattle.order.specs.Lists.{every, any}
+use Rattle.order.specs.Reordering.{link_refusal}
+use Rattle.command.specs.Commands.{Told, refusal}
 use Rattle.keeper.specs.declared.event.Event.{Event}
 use Rattle.keeper.specs.declared.event.Event.TheVariants.{Said, Next}
 use Rattle.keeper.specs.Engine.{Action, tells, shows, done, refused, Engine, one_act, runs}
@@ -17,7 +18,7 @@ abbrev Never : Engine → Type 0
 Never e = (n : ℕ) (m : List ℕ) (ev : Event) (ts : List Told) (ss : List (List ℕ)) → (runs n e m ev ts ss).end ≡ 0 → ⊥
 
 never_whole : (e : Engine) → Never e → Whole e → ⊥
-unfolding Whole Right Done every any refusal small_command
+unfolding Whole Right Done every any refusal link_refusal small_command
 never_whole e x w = let p = w.1 (Comes 1 ∷ []) refl in x p.0 e.start (Said (Comes 1)) [] [] (p.1.0 refl).0.0
 
 idle_never : (e : Engine) → Idle e → Never e

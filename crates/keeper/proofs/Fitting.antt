@@ -7,7 +7,7 @@ use Rattle.keeper.specs.declared.event.Event.TheVariants.{Said, Next}
 use Rattle.keeper.specs.declared.event.Act.{Act}
 use Rattle.keeper.specs.declared.event.Reason.{Reason}
 use Rattle.keeper.specs.declared.event.Reason.TheVariants.{Unfit, Busy}
-use Rattle.row.specs.declared.board.Command.{Command}
+use Rattle.command.specs.declared.command.Command.{Command}
 use Rattle.keeper.specs.declared.event.Telling.{Telling}
 use Rattle.keeper.specs.declared.event.Telling.TheVariants.{Written}
 use Rattle.keeper.specs.Answers.{Gives, quiet, ends, pending, written_out, as_told}

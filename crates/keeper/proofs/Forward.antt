@@ -1,19 +1,20 @@
 -- A link is made that the row keeps already, or is refused at once.
 use Rattle.std.proofs.Common.{◌≡◌, ℕ, ◌<◌, ◌≤◌, true, false, ◌&&◌, List, [], ◌∷◌, ◌++◌, map, length, is_some, Some, None, Option, Ok, Err, sym, refl, ap, ◌∙◌, subst, ap₂, inl, inr, arith}
 use Rattle.std.proofs.lemmas.Bool.{cases_Bool, cases_eq, cases_lt, both_ways, eq-eqb, ne_eqb, le-ltb, le-leb, lt-leb, and_from}
-use Rattle.row.proofs.Leading.{leads_just, leads_before}
-use Rattle.row.specs.declared.board.Link.{Link}
-use Rattle.row.specs.declared.board.Command.TheVariants.{Link as Links}
-use Rattle.row.specs.declared.board.Refusal.TheVariants.{Missing, Exists, Cycle, Full}
-use Rattle.row.specs.Lists.{any, has, distinct}
-use Rattle.row.specs.Board.{Board, ◌⟶◌, linked, leads, fine}
-use Rattle.row.specs.Commands.{refusal, may_be, with_link, backward, goes_round, follows, last_of}
-use Rattle.row.specs.Columns.{cell}
+use Rattle.order.proofs.Leading.{leads_just, leads_before}
+use Rattle.order.specs.declared.board.Link.{Link}
+use Rattle.command.specs.declared.command.Command.TheVariants.{Link as Links}
+use Rattle.order.specs.declared.board.Refusal.TheVariants.{Missing, Exists, Cycle, Full}
+use Rattle.order.specs.Lists.{any, has, distinct}
+use Rattle.order.specs.Board.{Board, ◌⟶◌, linked, leads, fine}
+use Rattle.command.specs.Commands.{refusal, may_be}
+use Rattle.order.specs.Reordering.{link_may_be, link_refusal, with_link, backward, goes_round, follows, last_of}
+use Rattle.memory.specs.Columns.{cell}
 use Rattle.row.specs.Layout.{ids, slots, places}
 use Rattle.row.specs.Meaning.{used, row_of, cards, Stands}
-use Rattle.row.specs.Renaming.{named}
-use Rattle.row.proofs.Filters.{same_itself}
-use Rattle.row.proofs.Allowed.{Open}
+use Rattle.order.specs.Renaming.{named}
+use Rattle.order.proofs.Filters.{same_itself}
+use Rattle.order.proofs.Allowed.{Open}
 use Rattle.row.proofs.Depending.{depends}
 use Rattle.row.proofs.Closes.{used_below}
 use Rattle.row.proofs.Named.{has_slot, place_slot, cards_named}
@@ -62,7 +63,7 @@ module _ (m : List ℕ) (R : Ready m) (o : once (edges m) ≡ true) (i : pending
   same = record { ready = R; single = o; idle = i; is = refl }
 
   no_card : slots_found m l ≡ None → (has r.row l.from && has r.row l.to) ≡ false → StepKept own 3 Means m r (Links l)
-  unfolding refusal said linking
+  unfolding refusal link_refusal said linking
   no_card e n = refuses_kept Means m m r (Links l) Missing i sm (rw n) missing_is_not (rw e refl) same
 
   module _ (s t : ℕ) (A : Seated m l.from s) (B : Seated m l.to t) (ha : has (cards m) l.from ≡ true) (hb : has (cards m) l.to ≡ true) where
@@ -79,7 +80,7 @@ module _ (m : List ℕ) (R : Ready m) (o : once (edges m) ≡ true) (i : pending
     found_law = (finds m x R.tabled (used_below m R.stands s A.in_use)).0
 
     there : any (joins x) (edges m) ≡ true → StepKept own 3 Means m r (Links l)
-    unfolding refusal said linking
+    unfolding refusal link_refusal said linking
     there h =
         let e = option_some (entry_found m x) (found_law ∙ h) in
         refuses_kept Means m m r (Links l) Exists i sm (rw (both, linked_here ∙ h)) exists_is_not (rw (slots_there m R l s t A B, e.1) refl) same
@@ -90,7 +91,7 @@ module _ (m : List ℕ) (R : Ready m) (o : once (edges m) ≡ true) (i : pending
 
       -- a card before itself
       itself : s ≡ t → StepKept own 3 Means m r (Links l)
-      unfolding refusal said linking goes_round follows last_of distinct any
+      unfolding refusal link_refusal said linking goes_round follows last_of distinct any
       itself e =
           let k : l.from ≡ l.to = sym A.card ∙ ap (cell m ids) e ∙ B.card in
           let m₁ = leaves_pending m 2 in
@@ -123,7 +124,7 @@ module _ (m : List ℕ) (R : Ready m) (o : once (edges m) ≡ true) (i : pending
         ]
 
         full : 65536 ≤ live m → StepKept own 3 Means m r (Links l)
-        unfolding refusal said put_in
+        unfolding refusal link_refusal said put_in
         full h =
             let c = (counts m R.tabled).0 in
             let c₁ = (names m R).length_links_named in
@@ -152,7 +153,7 @@ module _ (m : List ℕ) (R : Ready m) (o : once (edges m) ≡ true) (i : pending
           }
 
           fine_after : fine (slot_board m') ≡ true
-          unfolding may_be
+          unfolding may_be link_may_be
           fine_after =
               let b = slot_board m in
               let bw : backward b s t ≡ false = sym (backward_is m R l.from l.to s t A B) ∙ forward in
@@ -181,7 +182,7 @@ module _ (m : List ℕ) (R : Ready m) (o : once (edges m) ≡ true) (i : pending
           }
 
         made : live m < 65536 → StepKept own 3 Means m r (Links l)
-        unfolding refusal said put_in
+        unfolding refusal link_refusal said put_in
         made h =
             let c = (counts m R.tabled).0 in
             let c₁ = (names m R).length_links_named in

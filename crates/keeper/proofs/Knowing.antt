@@ -1,19 +1,19 @@
 -- What is known of a memory that means a board: the board of cards is the board of slots with other names.
 use Rattle.std.proofs.Common.{◌≡◌, ℕ, true, ◌&&◌, List, sym, ◌∙◌, subst, arith}
 use Rattle.std.proofs.lemmas.Bool.{and_parts, and_from}
-use Rattle.row.specs.declared.board.Link.{Link}
-use Rattle.row.specs.Lists.{every, has}
-use Rattle.row.specs.Board.{fine}
-use Rattle.row.specs.Columns.{cell}
+use Rattle.order.specs.declared.board.Link.{Link}
+use Rattle.order.specs.Lists.{every, has}
+use Rattle.order.specs.Board.{fine}
+use Rattle.memory.specs.Columns.{cell}
 use Rattle.row.specs.Layout.{ids, slots, count}
 use Rattle.row.specs.Meaning.{used, row_of, cards}
-use Rattle.row.specs.Renaming.{Naming, Renamed}
-use Rattle.row.proofs.Filters.{every_more}
-use Rattle.row.proofs.Climbs.{fine_parts}
-use Rattle.row.proofs.Tabulated.{made_has}
+use Rattle.order.specs.Renaming.{Naming, Renamed}
+use Rattle.order.proofs.Filters.{every_more}
+use Rattle.order.proofs.Climbs.{fine_parts}
+use Rattle.order.proofs.Tabulated.{made_has}
 use Rattle.row.proofs.Present.{slot_used}
 use Rattle.row.proofs.Named.{cards_named, slots_named}
-use Rattle.row.proofs.Renames.{renames}
+use Rattle.order.proofs.Renames.{renames}
 use Rattle.links.specs.Meaning.{edges}
 use Rattle.search.specs.Meaning.{slot_board, Ready}
 use Rattle.keeper.specs.Meaning.{card_board}

@@ -1,16 +1,17 @@
 -- A link that goes backward and can be kept: the row is settled for it and told, and the memory means the board with the link.
 use Rattle.std.proofs.Common.{◌≡◌, ℕ, ◌<◌, ◌≤◌, true, false, ◌&&◌, List, [], ◌∷◌, ◌++◌, map, length, None, sym, refl, ap, ◌∙◌, subst, ap₂, arith}
 use Rattle.std.proofs.lemmas.Bool.{lt-ltb, le-leb, lt-leb}
-use Rattle.row.specs.declared.board.Link.{Link}
-use Rattle.row.specs.declared.board.Command.TheVariants.{Link as Links}
-use Rattle.row.specs.declared.board.Refusal.TheVariants.{Full}
-use Rattle.row.specs.Lists.{any, has, place}
-use Rattle.row.specs.Board.{Board, ◌⟶◌, linked, leads, fine}
-use Rattle.row.specs.Commands.{refusal, with_link, backward}
-use Rattle.row.specs.Columns.{cell}
+use Rattle.order.specs.declared.board.Link.{Link}
+use Rattle.command.specs.declared.command.Command.TheVariants.{Link as Links}
+use Rattle.order.specs.declared.board.Refusal.TheVariants.{Full}
+use Rattle.order.specs.Lists.{any, has, place}
+use Rattle.order.specs.Board.{Board, ◌⟶◌, linked, leads, fine}
+use Rattle.command.specs.Commands.{refusal}
+use Rattle.order.specs.Reordering.{link_must_be, link_refusal, with_link, backward}
+use Rattle.memory.specs.Columns.{cell}
 use Rattle.row.specs.Layout.{ids, slots, places, count}
 use Rattle.row.specs.Meaning.{used, row_of, cards, Stands}
-use Rattle.row.specs.Renaming.{named}
+use Rattle.order.specs.Renaming.{named}
 use Rattle.row.proofs.Depending.{depends}
 use Rattle.row.proofs.Closes.{used_below}
 use Rattle.row.proofs.Named.{has_slot, place_slot, cards_named, row_used}
@@ -37,11 +38,12 @@ use Rattle.keeper.proofs.CardsGo.{all_named}
 use Rattle.keeper.proofs.TwoCards.{Seated, leads_is, backward_is, backward_places}
 use Rattle.std.proofs.lemmas.List.FromFn.{length-map-range_with_len}
 use lib.ListN.{length-map}
-use Rattle.row.proofs.Only.{must_may}
-use Rattle.row.proofs.Filters.{every_more}
-use Rattle.row.specs.Commands.{firm, must_be}
-use Rattle.row.specs.Board.{keeps}
-use Rattle.row.specs.Lists.{every}
+use Rattle.command.proofs.Staying.{must_may}
+use Rattle.order.proofs.Filters.{every_more}
+use Rattle.order.specs.Reordering.{firm}
+use Rattle.command.specs.Commands.{must_be}
+use Rattle.order.specs.Board.{keeps}
+use Rattle.order.specs.Lists.{every}
 use Rattle.links.specs.Layout.{live}
 use Rattle.search.specs.Layout.{fore, hind}
 use Rattle.search.specs.Settle.{forgotten, settled}
@@ -81,7 +83,7 @@ module _ (m : List ℕ) (R : Ready m) (o : once (edges m) ≡ true) (i : pending
   links_counted = (names m R).length_links_named ∙ sym (counts m R.tabled).0
 
   pub full : said m (Links l) ≡ moved m₁ x low high → 65536 ≤ live m → StepKept own 3 Means m r (Links l)
-  unfolding refusal moved
+  unfolding refusal link_refusal moved
   full se h =
       let K = P.kept in
       let q = forgotten m₁ in
@@ -96,7 +98,7 @@ module _ (m : List ℕ) (R : Ready m) (o : once (edges m) ≡ true) (i : pending
       })
 
   pub allowed : live m < 65536 → refusal r (Links l) ≡ None
-  unfolding refusal
+  unfolding refusal link_refusal
   allowed h = rw (all_in, not_linked, no_round, lt-leb 65536 (length r.links) (omega (arith, links_counted)))
 
   module _ (h : live m < 67584) where
@@ -155,7 +157,7 @@ module _ (m : List ℕ) (R : Ready m) (o : once (edges m) ≡ true) (i : pending
     goes_back = backward_is m R l.from l.to s t A B ∙ backward_places m R l.from l.to s t A B ∙ lt-ltb low high w
 
     fine_after : fine (slot_board m₃) ≡ true
-    unfolding must_be
+    unfolding must_be link_must_be
     fine_after =
         let b = slot_board m in
         let bk : backward b s t ≡ true = sym (backward_is m R l.from l.to s t A B) ∙ goes_back in

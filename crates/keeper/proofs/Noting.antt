@@ -1,17 +1,17 @@
 -- What is pending is no part of what the memory means.
 use Rattle.std.proofs.Common.{◌≡◌, ℕ, true, List, map, sym, ap, ◌∙◌, subst, ap₂, arith}
-use Rattle.row.specs.declared.board.Link.{Link}
-use Rattle.row.specs.Board.{fine}
-use Rattle.row.specs.Columns.{cell}
+use Rattle.order.specs.declared.board.Link.{Link}
+use Rattle.order.specs.Board.{fine}
+use Rattle.memory.specs.Columns.{cell}
 use Rattle.row.specs.Layout.{tally, ids}
 use Rattle.row.specs.Meaning.{row_of}
-use Rattle.row.specs.Renaming.{named}
+use Rattle.order.specs.Renaming.{named}
 use Rattle.row.proofs.Named.{cards_named}
 use Rattle.row.proofs.Depending.{depends}
 use Rattle.links.specs.Meaning.{edges, once}
 use Rattle.links.proofs.Sameness.{edges_alike, tabled_alike}
 use Rattle.search.specs.Meaning.{Ready}
-use Rattle.row.proofs.Cells.{cell_same}
+use Rattle.memory.proofs.Cells.{cell_same}
 use Rattle.keeper.specs.Answers.{pending, leaves_pending}
 use Rattle.keeper.specs.Meaning.{card_board, Means}
 use Rattle.keeper.proofs.Knowing.{row_is}

@@ -1,19 +1,20 @@
 -- A link between cards that are there, whatever the number of links: with a row that may be so and that keeps it, the board is fine.
 use Rattle.std.proofs.Common.{◌≡◌, ℕ, true, false, List, ◌∙◌, arith}
 use Rattle.std.proofs.lemmas.Bool.{and_from}
-use Rattle.row.specs.declared.board.Command.TheVariants.{Link as Links}
-use Rattle.row.specs.Lists.{every, has}
-use Rattle.row.specs.Board.{Board, ◌⟶◌, keeps, fine}
-use Rattle.row.specs.Commands.{with_link, backward, may_be}
-use Rattle.row.proofs.Filters.{every_append, every_more}
-use Rattle.row.proofs.Climbs.{fine_parts, fine_from, link_before}
-use Rattle.row.proofs.Allowed.{Open, forward_kept, keeps_more}
-use Rattle.row.proofs.Little.{link_has}
+use Rattle.command.specs.declared.command.Command.TheVariants.{Link as Links}
+use Rattle.order.specs.Lists.{every, has}
+use Rattle.order.specs.Board.{Board, ◌⟶◌, keeps, fine}
+use Rattle.order.specs.Reordering.{with_link, backward}
+use Rattle.command.specs.Commands.{may_be}
+use Rattle.order.proofs.Filters.{every_append, every_more}
+use Rattle.order.proofs.Climbs.{fine_parts, fine_from, link_before}
+use Rattle.order.proofs.Allowed.{Open, forward_kept, keeps_more}
+use Rattle.order.proofs.Little.{link_has}
 
 module _ (r : Board) (f : fine r ≡ true) (a b : ℕ) where
   pub open_stays : (has r.row a ≡ true) × (has r.row b ≡ true) → (row : List ℕ) → may_be r (Links (a ⟶ b)) row ≡ true → keeps row (with_link r a b) ≡ true →
       fine (record { row = row; links = with_link r a b }) ≡ true
-  unfolding every
+  unfolding every may_be
   open_stays t row m ke =
       let g = fine_parts r f in
       let p = link_has r g a b row m in

@@ -2,17 +2,17 @@
 use Rattle.std.proofs.Common.{◌≡◌, ℕ, suc, ◌+◌, ◌-◌, ◌^◌, ◌<◌, ◌≤◌, min, Bool, true, false, cond, eqb, ltb, leb, List, [], ◌∷◌, length, get_or, take, Some, None, Ok, Err, Option, Result, refl, arith, length-take}
 use lib.ListN.{length-map}
 use Rattle.std.proofs.lemmas.Bool.{and_parts, and_from, lt-ltb, ltb-true}
-use Rattle.row.specs.declared.board.Command.{Command}
-use Rattle.row.specs.declared.board.Command.TheVariants.{Comes, Goes, Link as Links, Unlink as Unlinks, Places}
-use Rattle.row.specs.declared.board.Link.{Link}
-use Rattle.row.specs.declared.board.Refusal.{Refusal}
-use Rattle.row.specs.declared.board.Refusal.TheVariants.{Missing, Exists, Cycle, Full}
-use Rattle.row.specs.Lists.{every}
-use Rattle.row.specs.Columns.{cell}
+use Rattle.command.specs.declared.command.Command.{Command}
+use Rattle.command.specs.declared.command.Command.TheVariants.{Comes, Goes, Link as Links, Unlink as Unlinks, Places}
+use Rattle.order.specs.declared.board.Link.{Link}
+use Rattle.order.specs.declared.board.Refusal.{Refusal}
+use Rattle.order.specs.declared.board.Refusal.TheVariants.{Missing, Exists, Cycle, Full}
+use Rattle.order.specs.Lists.{every}
+use Rattle.memory.specs.Columns.{cell}
 use Rattle.row.specs.Layout.{tally, ids, places}
 use Rattle.row.specs.Lookup.{found, Below}
 use Rattle.row.specs.Moves.{came, gone, place_found}
-use Rattle.row.proofs.Walking.{given_holds}
+use Rattle.memory.proofs.Options.{given_holds}
 use Rattle.links.specs.Entries.{found as entry_found}
 use Rattle.links.specs.Layout.{live}
 use Rattle.links.specs.Building.{inserted}

@@ -3,8 +3,8 @@ use Rattle.std.proofs.Common.{◌≡◌, ℕ, ◌+◌, ◌-◌, ◌≤◌, true,
 use Rattle.std.proofs.lemmas.List.{take-take, take_at, length-take-le}
 use Rattle.std.proofs.lemmas.Slice.{between_is, drop-append-drop}
 use Rattle.std.proofs.lemmas.Bool.{and_from, le-leb}
-use Rattle.row.specs.Lists.{every}
-use Rattle.row.specs.Commands.{Told, told_row, told_rows}
+use Rattle.order.specs.Lists.{every}
+use Rattle.command.specs.Commands.{Told, told_row, told_rows}
 use Rattle.keeper.specs.Sister.{within}
 use Rattle.keeper.proofs.Unroll.{told}
 

@@ -1,11 +1,12 @@
 -- The places of two cards are asked for: they are shown, and the memory means the same board.
 use Rattle.std.proofs.Common.{◌≡◌, ℕ, true, false, List, [], ◌∷◌, Some, None, Ok, refl, ap, ◌∙◌, inl, inr, arith}
 use Rattle.std.proofs.lemmas.Bool.{cases_Bool}
-use Rattle.row.specs.declared.board.Command.TheVariants.{Places}
-use Rattle.row.specs.declared.board.Refusal.TheVariants.{Missing}
-use Rattle.row.specs.Lists.{has, place}
-use Rattle.row.specs.Board.{Board}
-use Rattle.row.specs.Commands.{refusal}
+use Rattle.command.specs.declared.command.Command.TheVariants.{Places}
+use Rattle.order.specs.declared.board.Refusal.TheVariants.{Missing}
+use Rattle.order.specs.Lists.{has, place}
+use Rattle.order.specs.Board.{Board}
+use Rattle.order.specs.Reordering.{link_refusal}
+use Rattle.command.specs.Commands.{refusal}
 use Rattle.row.specs.Moves.{place_found}
 use Rattle.row.specs.Meaning.{cards}
 use Rattle.links.specs.Meaning.{edges, once}
@@ -46,16 +47,16 @@ module _ (m : List ℕ) (R : Ready m) (o : once (edges m) ≡ true) (i : pending
   same = record { ready = R; single = o; idle = i; is = refl }
 
   first_missing : has (cards m) a ≡ false → StepKept own 3 Means m r (Places a b)
-  unfolding refusal said
+  unfolding refusal link_refusal said
   first_missing n = refuses_kept Means m m r (Places a b) Missing i sm (rw (has_row a ∙ n)) missing_is_not (rw (nowhere a n)) same
 
   second_missing : has (cards m) a ≡ true → has (cards m) b ≡ false → StepKept own 3 Means m r (Places a b)
-  unfolding refusal said
+  unfolding refusal link_refusal said
   second_missing h n =
       refuses_kept Means m m r (Places a b) Missing i sm (rw (has_row a ∙ h, has_row b ∙ n)) missing_is_not (rw (at a h, nowhere b n)) same
 
   shown : has (cards m) a ≡ true → has (cards m) b ≡ true → StepKept own 3 Means m r (Places a b)
-  unfolding refusal said
+  unfolding refusal link_refusal said
   shown h g =
       let m₁ = leaves_pending m 1 in
       let ks = place r.row a ∷ place r.row b ∷ [] in

@@ -2,11 +2,11 @@
 use Rattle.std.proofs.Common.{◌≡◌, ℕ, zero, suc, ◌+◌, ◌<◌, ◌≤◌, true, ◌||◌, eqb, ltb, List, Some, Option, inl, inr, arith}
 use Rattle.std.proofs.lemmas.Bool.Decides.{nat_tests}
 use Rattle.std.proofs.lemmas.Bool.{cases_Bool, or_parts, ltb-true, ltb-false, eqb-false, cond_both}
-use Rattle.row.specs.Columns.{cell}
+use Rattle.memory.specs.Columns.{cell}
 use Rattle.row.specs.Layout.{tally, ids, chain, slots, places, count}
 use Rattle.row.specs.Lookup.{bucket, followed, entry, sought, found, entered, withdrawn, Below, EntryBelow}
 use Rattle.row.specs.Moves.{Outcome, room, slot_for, taken, arrived, came, shifted, last, closed, gone}
-use Rattle.row.proofs.Walking.{given_holds}
+use Rattle.memory.proofs.Options.{given_holds}
 use Rattle.keeper.specs.Promise.{all_small}
 use Rattle.keeper.specs.Sized.{KeepsSize}
 use Rattle.keeper.proofs.Size.{small_cell, size_same, size_then, size_written, cond_holds}

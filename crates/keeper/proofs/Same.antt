@@ -1,14 +1,15 @@
 -- Two engines that meet the firmer promise come to the same board.
 use Rattle.std.proofs.Common.{◌≡◌, ℕ, true, List, [], ◌∷◌, Some, None, Option, sym, refl, ap, ◌∙◌, subst, inl, inr}
 use Rattle.std.proofs.lemmas.Bool.{cases_Bool}
-use Rattle.row.specs.declared.board.Command.{Command}
-use Rattle.row.specs.declared.board.Command.TheVariants.{Comes, Goes, Link as Links, Unlink as Unlinks, Places}
-use Rattle.row.specs.declared.board.Refusal.{Refusal}
-use Rattle.row.specs.Lists.{every, distinct}
-use Rattle.row.specs.Board.{Board, keeps, fine}
-use Rattle.row.specs.Commands.{refusal, after, links_after, backward, must_be}
-use Rattle.row.proofs.Filters.{same_is}
-use Rattle.row.proofs.Only.{only_one}
+use Rattle.command.specs.declared.command.Command.{Command}
+use Rattle.command.specs.declared.command.Command.TheVariants.{Comes, Goes, Link as Links, Unlink as Unlinks, Places}
+use Rattle.order.specs.declared.board.Refusal.{Refusal}
+use Rattle.order.specs.Lists.{every, distinct}
+use Rattle.order.specs.Board.{Board, keeps, fine}
+use Rattle.command.specs.Commands.{refusal, after, links_after, must_be}
+use Rattle.order.specs.Reordering.{link_must_be, backward}
+use Rattle.order.proofs.Filters.{same_is}
+use Rattle.order.proofs.Only.{only_one}
 use Rattle.keeper.specs.Engine.{Engine, Ran, run_of}
 use Rattle.keeper.specs.Promise.{empty}
 use Rattle.keeper.specs.Sister.{DoneFirm, RightIn, WholeIn, board_after, OneBoard}
@@ -16,7 +17,7 @@ use Rattle.keeper.proofs.Simulation.{done_fine}
 
 must_be_one : (r : Board) (c : Command) (row row₁ : List ℕ) → fine r ≡ true → refusal r c ≡ None → must_be r c row ≡ true →
     keeps row (links_after r c) ≡ true → must_be r c row₁ ≡ true → keeps row₁ (links_after r c) ≡ true → row ≡ row₁
-unfolding must_be links_after
+unfolding refusal must_be link_must_be links_after
 must_be_one r (Comes j) row row₁ f z h k h₁ k₁ = same_is row _ h ∙ sym (same_is row₁ _ h₁)
 must_be_one r (Goes j) row row₁ f z h k h₁ k₁ = same_is row _ h ∙ sym (same_is row₁ _ h₁)
 must_be_one r (Links l) row row₁ f z h k h₁ k₁ = elim (cases_Bool (backward r l.from l.to)) [

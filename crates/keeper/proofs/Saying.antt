@@ -1,11 +1,12 @@
 -- A step of the engine, by what is said.
 use Rattle.std.proofs.Common.{◌≡◌, ℕ, ◌<◌, ◌≤◌, true, ◌≢◌, List, [], Some, Ok, Err, ap, ◌∙◌, arith}
 use Rattle.std.proofs.lemmas.Bool.{eq-eqb, ne_eqb}
-use Rattle.row.specs.declared.board.Command.{Command}
-use Rattle.row.specs.declared.board.Refusal.{Refusal}
-use Rattle.row.specs.declared.board.Refusal.TheVariants.{Missing, Exists, Cycle, Full}
-use Rattle.row.specs.Board.{Board}
-use Rattle.row.specs.Commands.{number, refusal}
+use Rattle.command.specs.declared.command.Command.{Command}
+use Rattle.order.specs.declared.board.Refusal.{Refusal}
+use Rattle.order.specs.declared.board.Refusal.TheVariants.{Missing, Exists, Cycle, Full}
+use Rattle.order.specs.Board.{Board}
+use Rattle.order.specs.Reordering.{number}
+use Rattle.command.specs.Commands.{refusal}
 use Rattle.keeper.specs.declared.event.Event.TheVariants.{Said, Next}
 use Rattle.keeper.specs.declared.event.Reason.TheVariants.{Board as ByBoard}
 use Rattle.keeper.specs.declared.event.Act.TheVariants.{Done}

@@ -1,14 +1,14 @@
 -- The firmer promise, from a relation between memory and board that each command keeps; the memory's length and its small numbers are had for nothing.
 use Rattle.std.proofs.Common.{◌≡◌, ℕ, true, eqb, ltb, List, [], ◌∷◌, length, Some, None, refl, ◌∙◌}
 use Rattle.std.proofs.lemmas.Bool.{and_parts, eqb-true}
-use Rattle.row.specs.declared.board.Command.{Command}
-use Rattle.row.specs.declared.board.Refusal.{Refusal}
-use Rattle.row.specs.Lists.{every, distinct}
-use Rattle.row.specs.Board.{Board, fine}
-use Rattle.row.specs.Commands.{refusal, after}
-use Rattle.row.proofs.Filters.{every_more}
-use Rattle.row.proofs.Staying.{stays_fine}
-use Rattle.row.proofs.Only.{must_may}
+use Rattle.command.specs.declared.command.Command.{Command}
+use Rattle.order.specs.declared.board.Refusal.{Refusal}
+use Rattle.order.specs.Lists.{every, distinct}
+use Rattle.order.specs.Board.{Board, fine}
+use Rattle.command.specs.Commands.{refusal, after}
+use Rattle.order.proofs.Filters.{every_more}
+use Rattle.command.proofs.Staying.{stays_fine}
+use Rattle.command.proofs.Staying.{must_may}
 use Rattle.keeper.specs.declared.event.Event.TheVariants.{Said}
 use Rattle.keeper.specs.Engine.{Engine, Ran, run_of}
 use Rattle.keeper.specs.Promise.{empty, all_small, Steady, Done, Refused, small_command, Right, Whole}

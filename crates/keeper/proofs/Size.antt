@@ -1,12 +1,12 @@
 -- Memory keeps its length, and its numbers stay below 2^64, through bounded writes; and answers fit what carries them.
 use Rattle.std.proofs.Common.{◌≡◌, ℕ, zero, suc, ◌+◌, ◌<◌, ◌≤◌, Bool, true, cond, ltb, List, [], ◌∷◌, map, length, get_or, take, set, refl, ◌∙◌, inl, inr, arith}
 use Rattle.std.proofs.lemmas.Bool.{cases_Bool, cond_both, and_parts, and_from, lt-ltb, ltb-true, le-leb}
-use Rattle.row.specs.declared.board.Command.{Command}
-use Rattle.row.specs.declared.column.Column.{Column}
-use Rattle.row.specs.Lists.{every}
-use Rattle.row.specs.Columns.{cell, written}
-use Rattle.row.proofs.Cells.{length_written}
-use Rattle.row.proofs.Filters.{every_take}
+use Rattle.command.specs.declared.command.Command.{Command}
+use Rattle.memory.specs.declared.column.Column.{Column}
+use Rattle.order.specs.Lists.{every}
+use Rattle.memory.specs.Columns.{cell, written}
+use Rattle.memory.proofs.Cells.{length_written}
+use Rattle.order.proofs.Filters.{every_take}
 use Rattle.keeper.specs.declared.event.Event.{Event}
 use Rattle.keeper.specs.declared.event.Event.TheVariants.{Said, Next}
 use Rattle.keeper.specs.Engine.{tells, shows, Step}

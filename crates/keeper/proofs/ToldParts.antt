@@ -1,11 +1,11 @@
 -- A link that goes backward and can be kept: what is told makes the row new, in one part or in two.
 use Rattle.std.proofs.Common.{◌≡◌, ℕ, suc, ◌+◌, ◌<◌, ◌≤◌, min, true, false, List, [], Some, None, Option, sym, refl, ◌∙◌, subst, inl, inr, arith}
 use Rattle.std.proofs.lemmas.Bool.{cases_lt, ne_eqb, lt-ltb, lt-leb}
-use Rattle.row.specs.declared.board.Link.{Link}
-use Rattle.row.specs.declared.board.Command.TheVariants.{Link as Links}
-use Rattle.row.specs.Lists.{any, has, place}
-use Rattle.row.specs.Board.{Board, ◌⟶◌}
-use Rattle.row.specs.Columns.{cell}
+use Rattle.order.specs.declared.board.Link.{Link}
+use Rattle.command.specs.declared.command.Command.TheVariants.{Link as Links}
+use Rattle.order.specs.Lists.{any, has, place}
+use Rattle.order.specs.Board.{Board, ◌⟶◌}
+use Rattle.memory.specs.Columns.{cell}
 use Rattle.row.specs.Layout.{places, count}
 use Rattle.row.specs.Meaning.{cards}
 use Rattle.links.specs.Entries.{joins}
@@ -19,7 +19,7 @@ use Rattle.keeper.specs.Meaning.{card_board, Means}
 use Rattle.keeper.proofs.Simulation.{StepKept}
 use Rattle.keeper.proofs.Cases.{backward_by}
 use Rattle.keeper.proofs.ToldRuns.{ToldOut, told_run}
-use Rattle.row.proofs.Only.{firm_parts}
+use Rattle.order.proofs.Only.{firm_parts}
 use Rattle.keeper.proofs.Saying.{step_said}
 use Rattle.keeper.specs.Engine.{run_of, ran, runs}
 use Rattle.keeper.proofs.TwoCards.{Seated, slots_there}

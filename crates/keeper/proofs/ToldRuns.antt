@@ -3,13 +3,13 @@ use Rattle.std.proofs.Common.{◌≡◌, ℕ, ◌+◌, ◌-◌, ◌<◌, ◌≤�
 use Rattle.std.proofs.lemmas.List.{take-take}
 use Rattle.std.proofs.lemmas.Bool.{cases_lt, eq-eqb, lt-ltb, le-ltb}
 use Rattle.std.proofs.lemmas.Bool.Decides.{nat_tests as tests}
-use Rattle.row.specs.Lists.{every}
-use Rattle.row.specs.Columns.{cell, written}
-use Rattle.row.specs.Commands.{Told, told_rows}
+use Rattle.order.specs.Lists.{every}
+use Rattle.memory.specs.Columns.{cell, written}
+use Rattle.command.specs.Commands.{Told, told_rows}
 use Rattle.row.specs.Layout.{tally, count}
 use Rattle.row.specs.Meaning.{cards}
 use Rattle.row.proofs.Beginning.{middle_is}
-use Rattle.row.proofs.Cells.{cell_same, cell_other, length_written}
+use Rattle.memory.proofs.Cells.{cell_same, cell_other, length_written}
 use Rattle.row.proofs.Depending.{depends}
 use Rattle.row.proofs.Present.{length_cards}
 use Rattle.search.specs.Meaning.{Ready}

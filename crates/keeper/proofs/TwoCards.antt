@@ -1,15 +1,15 @@
 -- Two cards that are spoken of, and their slots.
 use Rattle.std.proofs.Common.{◌≡◌, ℕ, true, false, ltb, List, Some, None, sym, refl, ap, ◌∙◌, inl, inr}
 use Rattle.std.proofs.lemmas.Bool.{cases_Bool, both_ways}
-use Rattle.row.specs.declared.board.Link.{Link}
-use Rattle.row.specs.Lists.{has}
-use Rattle.row.specs.Board.{Board, ◌⟶◌, linked, leads}
-use Rattle.row.specs.Commands.{backward}
-use Rattle.row.specs.Columns.{cell}
+use Rattle.order.specs.declared.board.Link.{Link}
+use Rattle.order.specs.Lists.{has}
+use Rattle.order.specs.Board.{Board, ◌⟶◌, linked, leads}
+use Rattle.order.specs.Reordering.{backward}
+use Rattle.memory.specs.Columns.{cell}
 use Rattle.row.specs.Layout.{ids, places}
 use Rattle.row.specs.Lookup.{found}
 use Rattle.row.specs.Meaning.{used, cards}
-use Rattle.row.proofs.Climbs.{fine_parts, link_ends}
+use Rattle.order.proofs.Climbs.{fine_parts, link_ends}
 use Rattle.row.proofs.Present.{finds}
 use Rattle.row.proofs.Named.{place_slot}
 use Rattle.search.specs.Meaning.{slot_board, Ready}

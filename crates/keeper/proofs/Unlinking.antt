@@ -1,20 +1,21 @@
 -- A link is taken back: the memory means the board without it.
 use Rattle.std.proofs.Common.{◌≡◌, ℕ, true, false, not, ◌&&◌, eqb, List, map, is_ok, None, Ok, Err, Result, sym, refl, ap, ◌∙◌, subst, ap₂, inl, inr, arith}
 use Rattle.std.proofs.lemmas.Bool.{cases_Bool, both_ways}
-use Rattle.row.specs.declared.board.Link.{Link}
-use Rattle.row.specs.declared.board.Command.TheVariants.{Unlink as Unlinks}
-use Rattle.row.specs.declared.board.Refusal.{Refusal}
-use Rattle.row.specs.declared.board.Refusal.TheVariants.{Missing}
-use Rattle.row.specs.Lists.{any, has, filter}
-use Rattle.row.specs.Board.{Board, ◌⟶◌, linked, fine}
-use Rattle.row.specs.Commands.{refusal, may_be, row_before, links_after}
-use Rattle.row.specs.Columns.{cell}
+use Rattle.order.specs.declared.board.Link.{Link}
+use Rattle.command.specs.declared.command.Command.TheVariants.{Unlink as Unlinks}
+use Rattle.order.specs.declared.board.Refusal.{Refusal}
+use Rattle.order.specs.declared.board.Refusal.TheVariants.{Missing}
+use Rattle.order.specs.Lists.{any, has, filter}
+use Rattle.order.specs.Board.{Board, ◌⟶◌, linked, fine}
+use Rattle.order.specs.Reordering.{link_may_be, link_refusal}
+use Rattle.command.specs.Commands.{refusal, may_be, row_before, links_after}
+use Rattle.memory.specs.Columns.{cell}
 use Rattle.row.specs.Layout.{ids}
 use Rattle.row.specs.Meaning.{used, row_of, cards, Stands}
 use Rattle.row.specs.Moves.{refused}
-use Rattle.row.specs.Renaming.{named}
-use Rattle.row.proofs.Filters.{same_itself}
-use Rattle.row.proofs.Staying.{stays}
+use Rattle.order.specs.Renaming.{named}
+use Rattle.order.proofs.Filters.{same_itself}
+use Rattle.command.proofs.Staying.{stays}
 use Rattle.row.proofs.Depending.{depends}
 use Rattle.row.proofs.Closes.{used_below}
 use Rattle.row.proofs.Named.{cards_named}
@@ -51,7 +52,7 @@ module _ (m : List ℕ) (R : Ready m) (o : once (edges m) ≡ true) (i : pending
   same = record { ready = R; single = o; idle = i; is = refl }
 
   no_card : slots_found m l ≡ None → linked r l.from l.to ≡ false → StepKept own 3 Means m r (Unlinks l)
-  unfolding refusal said unlinked
+  unfolding refusal link_refusal said unlinked
   no_card e n = refuses_kept Means m m r (Unlinks l) Missing i sm (rw n) missing_is_not (rw e refl) same
 
   module _ (s t : ℕ) (A : Seated m l.from s) (B : Seated m l.to t) where
@@ -66,7 +67,7 @@ module _ (m : List ℕ) (R : Ready m) (o : once (edges m) ≡ true) (i : pending
     linked_here = linked_is m R l.from l.to s t A B
 
     no_link : any (joins x) (edges m) ≡ false → StepKept own 3 Means m r (Unlinks l)
-    unfolding refusal said unlinked
+    unfolding refusal link_refusal said unlinked
     no_link n =
         refuses_kept Means m m r (Unlinks l) Missing i sm (rw (linked_here ∙ n)) missing_is_not
         (rw (slots_there m R l s t A B, law.3 n) refl) same
@@ -82,7 +83,7 @@ module _ (m : List ℕ) (R : Ready m) (o : once (edges m) ≡ true) (i : pending
       D = depends m m' (links_same m m' only)
 
       pub fine_after : fine (slot_board m') ≡ true
-      unfolding refusal may_be row_before links_after
+      unfolding refusal link_refusal may_be link_may_be row_before links_after
       fine_after =
           let b = slot_board m in
           let f = stays b (Unlinks x) (row_of m) R.fine_so (rw h) (same_itself _) (unlinks_keeps b R.fine_so s t) in
@@ -103,7 +104,7 @@ module _ (m : List ℕ) (R : Ready m) (o : once (edges m) ≡ true) (i : pending
           ap₂ (λ (xs : List ℕ) (ls : List Link). record { row = xs; links = ls }) a b
 
       taken_back : StepKept own 3 Means m r (Unlinks l)
-      unfolding refusal said unlinked
+      unfolding refusal link_refusal said unlinked
       taken_back =
           let q = result_ok (removed m x).answer (law.2 ∙ h) in
           unlinks_kept own 3 Means m r m' (fine_cards m R) l (rw (linked_here ∙ h))

@@ -1,14 +1,15 @@
 -- A row that isn't told anew keeps the links that the command leaves.
 use Rattle.std.proofs.Common.{◌≡◌, ℕ, true, false, not, ◌&&◌, ◌||◌, eqb, ltb, [], ◌∷◌, ◌++◌, None, arith}
 use Rattle.std.proofs.lemmas.Bool.{ltb-true, lt-ltb}
-use Rattle.row.specs.declared.board.Command.TheVariants.{Link as Links}
-use Rattle.row.specs.Lists.{filter, place}
-use Rattle.row.specs.Board.{Board, ◌⟶◌, keeps, fine}
-use Rattle.row.specs.Commands.{refusal, with_link, backward}
-use Rattle.row.proofs.Places.{place_left}
-use Rattle.row.proofs.Filters.{every_from, every_filter_more, place_filter}
-use Rattle.row.proofs.Climbs.{fine_parts, link_ends, link_before}
-use Rattle.row.proofs.Allowed.{open_link, forward_kept, keeps_more}
+use Rattle.command.specs.declared.command.Command.TheVariants.{Link as Links}
+use Rattle.order.specs.Lists.{filter, place}
+use Rattle.order.specs.Board.{Board, ◌⟶◌, keeps, fine}
+use Rattle.command.specs.Commands.{refusal}
+use Rattle.order.specs.Reordering.{with_link, backward}
+use Rattle.order.proofs.Places.{place_left}
+use Rattle.order.proofs.Filters.{every_from, every_filter_more, place_filter}
+use Rattle.order.proofs.Climbs.{fine_parts, link_ends, link_before}
+use Rattle.order.proofs.Allowed.{open_link, forward_kept, keeps_more}
 
 module _ (r : Board) (f : fine r ≡ true) where
   pub comes_keeps : (k : ℕ) → keeps (r.row ++ k ∷ []) r.links ≡ true
@@ -26,6 +27,7 @@ module _ (r : Board) (f : fine r ≡ true) where
       (fine_parts r f).kept
 
   pub forward_keeps : (a b : ℕ) → refusal r (Links (a ⟶ b)) ≡ None → backward r a b ≡ false → keeps r.row (with_link r a b) ≡ true
+  unfolding refusal
   forward_keeps a b re n =
       let p = fine_parts r f in
       let o = open_link r a b re in

@@ -1,7 +1,7 @@
 -- A run of a command, answer by answer: to go on is one step more, and three steps are enough for each of the ways that a command goes.
 use Rattle.std.proofs.Common.{◌≡◌, ℕ, suc, ◌<◌, ◌≤◌, List, [], ◌∷◌, ◌++◌, length, ◌∙◌, arith}
 use Rattle.std.proofs.lemmas.Bool.Decides.{nat_tests as tests}
-use Rattle.row.specs.Commands.{Told}
+use Rattle.command.specs.Commands.{Told}
 use Rattle.keeper.specs.declared.event.Event.{Event}
 use Rattle.keeper.specs.declared.event.Event.TheVariants.{Next}
 use Rattle.keeper.specs.Engine.{Action, tells, shows, done, refused, Step, Engine, ran, one_act, runs}

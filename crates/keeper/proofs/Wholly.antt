@@ -1,24 +1,24 @@
 -- THE THEOREM: the keeper's engine meets the promise, and its firmer sister within three steps.
 use Rattle.std.proofs.Common.{◌≡◌, ℕ, ◌+◌, ◌≤◌, true, false, List, [], map, length, replicate, sym, refl, ap, subst, ap₂, arith}
 use lib.ListN.{length-replicate}
-use Rattle.row.specs.declared.board.Link.{Link}
-use Rattle.row.specs.declared.board.Command.{Command}
-use Rattle.row.specs.declared.board.Command.TheVariants.{Comes, Goes, Link as Links, Unlink as Unlinks, Places}
-use Rattle.row.specs.Lists.{every, distinct}
-use Rattle.row.specs.Board.{Board, fine}
-use Rattle.row.specs.Columns.{cell}
+use Rattle.order.specs.declared.board.Link.{Link}
+use Rattle.command.specs.declared.command.Command.{Command}
+use Rattle.command.specs.declared.command.Command.TheVariants.{Comes, Goes, Link as Links, Unlink as Unlinks, Places}
+use Rattle.order.specs.Lists.{every, distinct}
+use Rattle.order.specs.Board.{Board, fine}
+use Rattle.memory.specs.Columns.{cell}
 use Rattle.row.specs.Layout.{tally, ids, slots, count}
 use Rattle.row.specs.Meaning.{row_of, Stands}
-use Rattle.row.specs.Renaming.{renamed}
+use Rattle.order.specs.Renaming.{renamed}
 use Rattle.std.specs.List.{range_with_len}
 use Rattle.row.proofs.Beginning.{begins, cell_zeros}
 use Rattle.links.specs.Meaning.{edges, once, Tabled}
 use Rattle.links.proofs.Emptying.{tabled_zeros}
 use Rattle.search.specs.Layout.{fore, hind, via}
-use Rattle.search.specs.Marks.{marked}
-use Rattle.search.specs.MarkLaws.{Summed}
+use Rattle.memory.specs.PlaceSets.{marked}
+use Rattle.memory.specs.PlaceSetLaws.{Summed}
 use Rattle.keeper.specs.Answers.{pending}
-use Rattle.search.proofs.Zeros.{fresh_memory}
+use Rattle.search.proofs.Fresh.{fresh_memory}
 use Rattle.keeper.specs.Promise.{empty, Whole, small_command}
 use Rattle.keeper.specs.Sister.{WholeIn}
 use Rattle.keeper.specs.Own.{own}

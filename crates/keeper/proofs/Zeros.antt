@@ -2,7 +2,7 @@
 use Rattle.std.proofs.Common.{◌≡◌, ℕ, zero, suc, ◌≤◌, Bool, true, eqb, List, length, replicate, refl, arith}
 use lib.ListN.{length-replicate}
 use Rattle.std.proofs.lemmas.Bool.{and_from}
-use Rattle.row.specs.Lists.{every}
+use Rattle.order.specs.Lists.{every}
 use Rattle.keeper.specs.declared.event.Event.{Event}
 use Rattle.keeper.specs.Engine.{Step}
 use Rattle.keeper.specs.Promise.{Steady}

@@ -14,8 +14,8 @@
 --   still_to_come m    what is, by its name; noted: the memory with that noted
 --   by_result          one or another, by an operation's result
 use Rattle.std.specs.Prelude.{◌≡◌, ℕ, cond, List, [], ◌++◌, length, drop, Some, None, Option, Ok, Err, Result, ◌==◌}
-use Rattle.row.specs.declared.board.Refusal.{Refusal}
-use Rattle.row.specs.Columns.{cell, written}
+use Rattle.order.specs.declared.board.Refusal.{Refusal}
+use Rattle.memory.specs.Columns.{cell, written}
 use Rattle.row.specs.Layout.{tally}
 use Rattle.keeper.specs.declared.event.Reason.TheVariants.{Board}
 use Rattle.keeper.specs.declared.event.Act.{Act}

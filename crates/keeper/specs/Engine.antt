@@ -10,8 +10,9 @@
 --   runs n            an event and what comes of it, in at most n steps
 --   run_of n e m c    how the command c goes on the engine e from the memory m on, in at most n steps
 use Rattle.std.specs.Prelude.{ℕ, zero, suc, cond, ◌&&◌, List, [], ◌∷◌, ◌++◌, length, take, Result, Ok, Err, nat_le, nat_lt}
-use Rattle.row.specs.declared.board.Command.{Command}
-use Rattle.row.specs.Commands.{number, Told}
+use Rattle.command.specs.declared.command.Command.{Command}
+use Rattle.order.specs.Reordering.{number}
+use Rattle.command.specs.Commands.{Told}
 use Rattle.keeper.specs.declared.event.Event.{Event}
 use Rattle.keeper.specs.declared.event.Event.TheVariants.{Said, Next}
 use Rattle.keeper.specs.declared.event.Reason.{Reason}

@@ -6,12 +6,13 @@
 --   shown_itself m k   a card before itself: it is the way alone
 --   linked m l         a link made
 use Rattle.std.specs.Prelude.{ℕ, cond, List, [], ◌∷◌, Some, None, Option, Ok, ◌==◌, nat_le, nat_lt}
-use Rattle.row.specs.declared.board.Link.{Link}
-use Rattle.row.specs.declared.board.Refusal.TheVariants.{Missing, Exists, Full}
-use Rattle.row.specs.Board.{◌⟶◌}
-use Rattle.row.specs.Columns.{cell}
+use Rattle.order.specs.declared.board.Link.{Link}
+use Rattle.order.specs.declared.board.Refusal.TheVariants.{Missing, Exists, Full}
+use Rattle.order.specs.Board.{◌⟶◌}
+use Rattle.memory.specs.Columns.{cell}
 use Rattle.row.specs.Layout.{places}
-use Rattle.row.specs.Lookup.{given, found}
+use Rattle.memory.specs.Options.{given}
+use Rattle.row.specs.Lookup.{found}
 use Rattle.links.specs.Layout.{live}
 use Rattle.links.specs.Entries.{found as entry_found}
 use Rattle.links.specs.Building.{inserted}

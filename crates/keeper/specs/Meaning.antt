@@ -3,10 +3,10 @@
 --   card_board m   the board that the memory means: the cards in the row, and the links between cards
 --   Means m r      the memory is sound, nothing is pending, no link is there twice, and it means the board r
 use Rattle.std.specs.Prelude.{◌≡◌, ℕ, true, List}
-use Rattle.row.specs.Board.{Board}
-use Rattle.row.specs.Columns.{cell}
+use Rattle.order.specs.Board.{Board}
+use Rattle.memory.specs.Columns.{cell}
 use Rattle.row.specs.Layout.{ids}
-use Rattle.row.specs.Renaming.{renamed}
+use Rattle.order.specs.Renaming.{renamed}
 use Rattle.links.specs.Meaning.{edges, once}
 use Rattle.search.specs.Meaning.{slot_board, Ready}
 use Rattle.keeper.specs.Answers.{pending}

@@ -12,13 +12,13 @@
 --   StepSays         what the function `step` promises: it takes the engine's step, and tells its answer by the act and the front of the output; where
 --                    the memory or the output doesn't fit, nothing is changed
 use Rattle.std.specs.Prelude.{◌≡◌, ℕ, Bool, true, false, cond, ◌&&◌, List, [], ◌∷◌, ◌++◌, length, drop, replicate, Result, Ok, Err, ◌==◌, nat_le}
-use Rattle.row.specs.declared.board.Command.{Command}
-use Rattle.row.specs.declared.board.Command.TheVariants.{Comes, Goes, Link as Links, Unlink as Unlinks, Places}
-use Rattle.row.specs.declared.board.Refusal.{Refusal}
-use Rattle.row.specs.declared.board.Refusal.TheVariants.{Missing, Cycle}
-use Rattle.row.specs.Columns.{cell}
+use Rattle.command.specs.declared.command.Command.{Command}
+use Rattle.command.specs.declared.command.Command.TheVariants.{Comes, Goes, Link as Links, Unlink as Unlinks, Places}
+use Rattle.order.specs.declared.board.Refusal.{Refusal}
+use Rattle.order.specs.declared.board.Refusal.TheVariants.{Missing, Cycle}
+use Rattle.memory.specs.Columns.{cell}
 use Rattle.row.specs.Layout.{tally}
-use Rattle.row.specs.Lookup.{given}
+use Rattle.memory.specs.Options.{given}
 use Rattle.row.specs.Moves.{came, gone, place_found}
 use Rattle.links.specs.Removing.{removed_all}
 use Rattle.keeper.specs.declared.event.Event.{Event}

@@ -13,8 +13,13 @@
 --   ended_by s a        how it ended, if it had shown s numbers before its last answer a
 --   played_on n         an answer and what comes of it, in at most n more steps
 --   played m c out      the command c, in at most three steps
-use Rattle.std.specs.Prelude.{◌≡◌, ℕ, zero, suc, cond, List, ◌++◌, length, drop, Some, None, Option, Ok, Err, Result}
-use Rattle.row.specs.declared.board.Command.{Command}
+--   row_read m row      `row` after the row that the memory has was written to its front, if the memory is of the length that is lent
+--   count_read m row    how many cards were written
+use Rattle.std.specs.Prelude.{◌≡◌, ℕ, zero, suc, cond, List, ◌++◌, length, drop, Some, None, Option, Ok, Err, Result, ◌==◌}
+use Rattle.memory.specs.declared.column.TheConstants.{MEMORY}
+use Rattle.row.specs.Layout.{count}
+use Rattle.row.specs.Telling.{told, told_count}
+use Rattle.command.specs.declared.command.Command.{Command}
 use Rattle.keeper.specs.declared.event.Event.{Event}
 use Rattle.keeper.specs.declared.event.Event.TheVariants.{Said, Next}
 use Rattle.keeper.specs.declared.event.Reason.{Reason}
@@ -85,3 +90,9 @@ played_on n m a out s = by_act (λ m₁ out₁ s₁. plays n m₁ Next out₁ s�
 
 abbrev pub played : List ℕ → Command → List ℕ → Ending
 played m c out = plays 3 m (Said c) out 0
+
+unfoldable pub row_read : List ℕ → List ℕ → List ℕ
+row_read m row = cond (length m == MEMORY) (told m 0 (count m) row) row
+
+unfoldable pub count_read : List ℕ → List ℕ → ℕ
+count_read m row = cond (length m == MEMORY) (told_count m 0 (count m) row) 0

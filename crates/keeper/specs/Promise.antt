@@ -15,13 +15,14 @@
 --   Right e m r cs     from the memory m and the board r on, each of the commands is done or refused rightly
 --   Whole e            the promise
 use Rattle.std.specs.Prelude.{◌≡◌, ℕ, zero, ◌≤◌, Bool, true, ◌&&◌, ltb, ◌≢◌, List, [], ◌∷◌, length, Some, None, nat_eq, nat_lt}
-use Rattle.row.specs.declared.board.Command.{Command}
-use Rattle.row.specs.declared.board.Command.TheVariants.{Comes, Goes, Link as Links, Unlink as Unlinks, Places}
-use Rattle.row.specs.declared.board.Refusal.{Refusal}
-use Rattle.row.specs.declared.board.Refusal.TheVariants.{Cycle}
-use Rattle.row.specs.Lists.{every, place}
-use Rattle.row.specs.Board.{Board, keeps}
-use Rattle.row.specs.Commands.{number, refusal, after, may_be, goes_round}
+use Rattle.command.specs.declared.command.Command.{Command}
+use Rattle.command.specs.declared.command.Command.TheVariants.{Comes, Goes, Link as Links, Unlink as Unlinks, Places}
+use Rattle.order.specs.declared.board.Refusal.{Refusal}
+use Rattle.order.specs.declared.board.Refusal.TheVariants.{Cycle}
+use Rattle.order.specs.Lists.{every, place}
+use Rattle.order.specs.Board.{Board, keeps}
+use Rattle.order.specs.Reordering.{number, goes_round}
+use Rattle.command.specs.Commands.{refusal, after, may_be}
 use Rattle.keeper.specs.declared.event.Event.{Event}
 use Rattle.keeper.specs.Engine.{Engine, Ran, run_of}
 

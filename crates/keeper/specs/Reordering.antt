@@ -4,11 +4,11 @@
 --   moved m x i j       the link x is put in, with the row settled for it, and the part of the row from the place i to j is told
 --   reordered m x       one or the other, by what the search finds
 use Rattle.std.specs.Prelude.{ℕ, ◌+◌, min, cond, List, map, length, Ok, nat_le}
-use Rattle.row.specs.declared.board.Link.{Link}
-use Rattle.row.specs.declared.board.Refusal.TheVariants.{Full}
-use Rattle.row.specs.Columns.{cell}
+use Rattle.order.specs.declared.board.Link.{Link}
+use Rattle.order.specs.declared.board.Refusal.TheVariants.{Full}
+use Rattle.memory.specs.Columns.{cell}
 use Rattle.row.specs.Layout.{ids, places}
-use Rattle.row.specs.Lookup.{given}
+use Rattle.memory.specs.Options.{given}
 use Rattle.links.specs.Layout.{live}
 use Rattle.links.specs.Building.{inserted}
 use Rattle.search.specs.Layout.{via}

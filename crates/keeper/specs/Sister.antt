@@ -10,13 +10,14 @@
 --   board_after      the board after commands, as an engine told it
 --   OneBoard         two engines that meet the firmer promise come to the same board, whatever the commands are
 use Rattle.std.specs.Prelude.{◌≡◌, ℕ, zero, suc, ◌+◌, Bool, true, false, ◌&&◌, ◌≢◌, List, [], ◌∷◌, length, Some, None, nat_le}
-use Rattle.row.specs.declared.board.Command.{Command}
-use Rattle.row.specs.declared.board.Command.TheVariants.{Comes, Goes, Link as Links, Unlink as Unlinks, Places}
-use Rattle.row.specs.declared.board.Refusal.{Refusal}
-use Rattle.row.specs.Lists.{every, place}
-use Rattle.row.specs.Board.{Board, keeps}
-use Rattle.row.specs.Commands.{refusal, Told, after, backward, must_be}
-use Rattle.row.specs.Lookup.{given}
+use Rattle.command.specs.declared.command.Command.{Command}
+use Rattle.command.specs.declared.command.Command.TheVariants.{Comes, Goes, Link as Links, Unlink as Unlinks, Places}
+use Rattle.order.specs.declared.board.Refusal.{Refusal}
+use Rattle.order.specs.Lists.{every, place}
+use Rattle.order.specs.Board.{Board, keeps}
+use Rattle.command.specs.Commands.{refusal, Told, after, must_be}
+use Rattle.order.specs.Reordering.{backward}
+use Rattle.memory.specs.Options.{given}
 use Rattle.keeper.specs.Engine.{Engine, Ran, run_of}
 use Rattle.keeper.specs.Promise.{empty, Steady, shown_for, Refused, small_command, Whole}
 

@@ -4,7 +4,7 @@
 --   left_to_tell       what is still to come of a row that is told up to a place, and is to be told up to another
 --   told_part m i j    the cards from the place i on, below j, told, at most 4,096 of them
 use Rattle.std.specs.Prelude.{ℕ, ◌+◌, ◌-◌, min, cond, List, map, take, drop, Ok, nat_lt}
-use Rattle.row.specs.Columns.{cell}
+use Rattle.memory.specs.Columns.{cell}
 use Rattle.row.specs.Layout.{ids, slots}
 use Rattle.keeper.specs.declared.event.Act.TheVariants.{Tells}
 use Rattle.keeper.specs.declared.pending.Pending.TheVariants.{Done, More}

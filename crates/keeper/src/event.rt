@@ -3,7 +3,8 @@ ghost use Rattle.std.specs.Prelude.{◌≡◌};
 ghost use Rattle.keeper.specs.declared.event.Reason.TheVariants.{Board};
 ghost use Rattle.keeper.specs.Engine.{reason_number};
 
-use row::{Command, Refusal};
+use command::Command;
+use order::Refusal;
 
 // A command is said, or the keeper is to go on with the last one.
 #[derive(Clone, Copy, Debug, PartialEq, Eq)]

@@ -5,15 +5,17 @@ ghost use Rattle.keeper.specs.Answers.{Gives, Ends, as_told};
 ghost use Rattle.keeper.specs.Linking.{slots_found, unlinked, put_in, shown_itself, linked};
 
 use crate::event::{Act, Reason, Telling};
-use crate::layout::{LINKS, Memory, Output};
+use crate::layout::Output;
 use crate::pending::Pending;
 use crate::reordering::reorder;
 use links::{insert, remove};
-use row::{Link, Refusal, find, place_at};
+use memory::Memory;
+use order::{LINKS, Link, Refusal};
+use row::{find, place_at};
 
 // The slots of two cards, if both are there.
 #[tactic(auto, unfolding(crate::specs::Linking::slots_found))]
-pub fn slots_of(memory: &[u64], link: Link) -> Option<Link>
+pub fn slots_of(memory: &Memory, link: Link) -> Option<Link>
     ensures { result ≡ slots_found memory.now link }
 {
     Some(Link {
@@ -24,7 +26,7 @@ pub fn slots_of(memory: &[u64], link: Link) -> Option<Link>
 
 // Takes a link between cards back.
 #[tactic(auto, unfolding(crate::specs::Linking::unlinked))]
-pub(crate) fn unlink(memory: &mut [u64], link: Link) -> Result<Act, Reason>
+pub(crate) fn unlink(memory: &mut Memory, link: Link) -> Result<Act, Reason>
     ensures { Ends (unlinked memory.old link) result memory.new }
 {
     let Some(slots) = slots_of(memory, link) else {
@@ -38,7 +40,7 @@ pub(crate) fn unlink(memory: &mut [u64], link: Link) -> Result<Act, Reason>
 
 // Puts a link between slots in, if there's room.
 #[tactic(auto, unfolding(crate::specs::Linking::put_in))]
-fn put_in(memory: &mut [u64], slots: Link) -> Result<Act, Reason>
+fn put_in(memory: &mut Memory, slots: Link) -> Result<Act, Reason>
     ensures { Ends (put_in memory.old slots) result memory.new }
 {
     if links::len(memory) >= LINKS {

@@ -3,6 +3,7 @@ ghost use Rattle.std.specs.Prelude.{◌≡◌};
 ghost use Rattle.keeper.specs.Answers.{still_to_come, noted};
 
 use crate::layout::{MORE_FROM, MORE_TO, PENDING};
+use memory::Memory;
 use row::TALLY;
 
 // Nothing; that it's done; that it's refused, since it would go round; or more of the row, from a place on, below another.
@@ -17,7 +18,7 @@ pub enum Pending {
 impl Pending {
     // What the memory says is still to come; none, if what it says is nothing of the kind.
     #[tactic(auto, unfolding(crate::specs::Answers::still_to_come))]
-    pub fn of(memory: &[u64]) -> Option<Pending>
+    pub fn of(memory: &Memory) -> Option<Pending>
         ensures { result ≡ still_to_come memory.now }
     {
         match TALLY.get(memory, PENDING) {
@@ -33,7 +34,7 @@ impl Pending {
     }
 
     // Notes it in the memory.
-    pub fn note(self, memory: &mut [u64])
+    pub fn note(self, memory: &mut Memory)
         ensures { memory.new ≡ noted memory.old self }
     {
         match self {

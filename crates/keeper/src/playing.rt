@@ -1,16 +1,15 @@
 // A command, played to its end.
 ghost use Rattle.std.specs.Prelude.{◌≡◌};
 ghost use Rattle.keeper.specs.Own.{own};
-ghost use Rattle.keeper.specs.Playing.{shown_then, ended_by, played_on, played, Went};
+ghost use Rattle.keeper.specs.Playing.{shown_then, ended_by, played_on, played, Went, row_read, count_read};
 ghost use Rattle.keeper.specs.PlayLaws.{Plays};
 ghost use Rattle.keeper.specs.Promise.{Whole};
 ghost use Rattle.keeper.specs.Sister.{WholeIn};
-ghost use Rattle.row.specs.Layout.{count};
-ghost use Rattle.row.specs.Telling.{told, told_count};
 
 use crate::event::{Act, Event, Reason, Telling};
 use crate::stepping::step_as;
-use row::{Command, len, tell};
+use command::Command;
+use row::{len, tell};
 
 // How a command ended: how many numbers at the front of the output it showed; and that it was done, or why it was refused.
 #[derive(Clone, Copy, Debug, PartialEq, Eq)]
@@ -82,10 +81,15 @@ pub fn play(memory: &mut [u64], command: Command, out: &mut [u64]) -> Played
     play_on(memory, first, out)
 }
 
-// Writes the row, as the memory has it, to the front of `row`, and says how many cards it has; nothing if it finds no room.
+// Writes the row, as the memory has it, to the front of `row`, and says how many cards it has; nothing if it finds no room, or the memory isn't of the length that
+// is lent to the keeper.
+#[tactic(auto, unfolding(crate::specs::Playing::row_read, crate::specs::Playing::count_read))]
 pub fn read_row(memory: &[u64], row: &mut [u64]) -> u64
-    ensures is { result ≡ told_count memory.now 0 (count memory.now) row.old }
-    ensures row { row.new ≡ told memory.now 0 (count memory.now) row.old }
+    ensures is { result ≡ count_read memory.now row.old }
+    ensures row { row.new ≡ row_read memory.now row.old }
 {
+    let Some(memory) = memory.as_array() else {
+        return 0;
+    };
     tell(memory, 0, len(memory), row)
 }

@@ -4,11 +4,13 @@ ghost use Rattle.keeper.specs.Answers.{Gives, as_told};
 ghost use Rattle.keeper.specs.Reordering.{shown_round, moved, reordered};
 
 use crate::event::{Act, Reason, Telling};
-use crate::layout::{LINKS, Memory, Output};
+use crate::layout::Output;
 use crate::pending::Pending;
 use crate::telling::tell_part;
 use links::insert;
-use row::{Link, Refusal, place_at};
+use memory::Memory;
+use order::{LINKS, Link, Refusal};
+use row::place_at;
 use search::{forget, meet, settle, show_and_forget};
 
 // Shows the way by which the link would go round, after the searches met.

@@ -9,15 +9,18 @@ ghost use Rattle.keeper.specs.Sister.{WholeIn};
 ghost use Rattle.keeper.specs.Sized.{Fits};
 
 use crate::event::{Act, Event, Reason, Telling};
-use crate::layout::{Memory, Output};
+use crate::layout::Output;
 use crate::linking::{link, unlink};
 use crate::pending::Pending;
 use crate::telling::tell_part;
+use command::Command;
 use links::remove_all;
-use row::{Command, Refusal, comes, goes, place_of};
+use memory::Memory;
+use order::Refusal;
+use row::{comes, goes, place_of};
 
 // A card comes.
-fn arrive(memory: &mut [u64], card: u64) -> Result<Act, Reason>
+fn arrive(memory: &mut Memory, card: u64) -> Result<Act, Reason>
     ensures { Ends (ended (came memory.old card).answer (came memory.old card).memory) result memory.new }
 {
     comes(memory, card)?;
@@ -25,7 +28,7 @@ fn arrive(memory: &mut [u64], card: u64) -> Result<Act, Reason>
 }
 
 // A card goes, and its links with it.
-fn leave(memory: &mut [u64], card: u64) -> Result<Act, Reason>
+fn leave(memory: &mut Memory, card: u64) -> Result<Act, Reason>
     ensures { Ends (left memory.old card) result memory.new }
 {
     let slot = goes(memory, card)?;

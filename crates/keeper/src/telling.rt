@@ -4,13 +4,15 @@ ghost use Rattle.keeper.specs.Answers.{Gives, as_told};
 ghost use Rattle.keeper.specs.Telling.{told_part, left_to_tell};
 
 use crate::event::{Act, Telling};
-use crate::layout::{Memory, Output, TOLD};
+use crate::layout::{Output, TOLD};
 use crate::pending::Pending;
-use row::{CARDS, tell};
+use memory::Memory;
+use order::CARDS;
+use row::tell;
 
 // Notes what is still to come of a row that is told up to `from`, and is to be told up to `to`.
 #[tactic(auto, unfolding(crate::specs::Telling::left_to_tell))]
-fn note_rest(memory: &mut [u64], from: u64, to: u64)
+fn note_rest(memory: &mut Memory, from: u64, to: u64)
     ensures { memory.new ≡ left_to_tell memory.old from to }
 {
     let rest = if from < to {

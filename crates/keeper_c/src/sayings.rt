@@ -1,7 +1,7 @@
 // Commands, and the row.
 ghost use Rattle.std.specs.Prelude.{◌≡◌};
-ghost use Rattle.row.specs.Board.{◌⟶◌};
-ghost use Rattle.row.specs.declared.board.Command.TheVariants.{Comes, Goes, Link as Links, Unlink as Unlinks, Places};
+ghost use Rattle.order.specs.Board.{◌⟶◌};
+ghost use Rattle.command.specs.declared.command.Command.TheVariants.{Comes, Goes, Link as Links, Unlink as Unlinks, Places};
 ghost use Rattle.row.specs.Layout.{count};
 ghost use Rattle.row.specs.Telling.{told, told_count};
 ghost use Rattle.batch.specs.Engine.{said, one as commanded};
@@ -14,7 +14,8 @@ ghost use Rattle.keeper_c.specs.Answers.{CameTo};
 use crate::answer::KeeperAnswer;
 use batch::{Event, play};
 use keeper::read_row;
-use row::{Command, Link};
+use command::Command;
+use order::Link;
 
 // A command is said to the engine that takes several links at once too, so that all functions are of one engine.
 fn say(memory: &mut [u64], command: Command, out: &mut [u64]) -> KeeperAnswer

@@ -10,7 +10,7 @@ ghost use Rattle.keeper_c.specs.Answers.{CameTo};
 
 use crate::answer::KeeperAnswer;
 use batch::{Event, play};
-use row::Link;
+use order::Link;
 
 // All the links hold, or none.
 #[unsafe(no_mangle)]

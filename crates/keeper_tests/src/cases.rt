@@ -1,5 +1,6 @@
 // A command with what is to come of it.
-use row::{Command, Link, Refusal};
+use command::Command;
+use order::{Link, Refusal};
 
 // What is said; whether it is to be done, or else why not; the numbers that are to be shown.
 #[derive(Clone, Copy)]

@@ -2,7 +2,8 @@
 use crate::cases::{done, link, refused, round, unlink};
 use crate::player::Player;
 use keeper::LINKS;
-use row::{Command, Link, Refusal};
+use command::Command;
+use order::{Link, Refusal};
 use std::process::Abort;
 use std::test::Fail;
 

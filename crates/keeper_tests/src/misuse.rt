@@ -2,7 +2,8 @@
 use crate::cases::{Case, done, link, refused, round, unlink};
 use crate::player::Player;
 use keeper::{Act, Event, MEMORY, OUTPUT, Reason, step};
-use row::{Command, Refusal};
+use command::Command;
+use order::Refusal;
 use std::process::Abort;
 use std::test::Fail;
 

@@ -1,7 +1,8 @@
 // Links come and go, and the row is put right for them.
 use crate::cases::{done, link, refused, round, unlink};
 use crate::player::Player;
-use row::{Command, Refusal};
+use command::Command;
+use order::Refusal;
 use std::process::Abort;
 use std::test::Fail;
 

@@ -1,7 +1,8 @@
 // A player says commands to a keeper, and keeps the row by what it is told.
 use crate::cases::{Case, done};
 use keeper::{Act, Event, MEMORY, OUTPUT, Reason, step};
-use row::{Command, len, tell};
+use command::Command;
+use row::{len, tell};
 use std::process::Abort;
 use std::test::Fail;
 

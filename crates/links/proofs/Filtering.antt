@@ -1,6 +1,6 @@
 -- Filters, one behind the other and side by side.
-use Rattle.std.proofs.Common.{◌≡◌, Bool, true, false, not, ◌&&◌, ◌||◌, List, [], ◌∷◌, ◌++◌, map, filter, reverse, refl, sym, ap, ◌∙◌, inl, inr, arith}
-use Rattle.std.specs.List.{list_all, list_any, AllByRecursion}
+use Rattle.std.proofs.Common.{◌≡◌, Bool, true, false, ◌&&◌, ◌||◌, List, [], ◌∷◌, ◌++◌, map, filter, reverse, refl, sym, ap, ◌∙◌, inl, inr, arith}
+use Rattle.std.specs.List.{list_all, AllByRecursion}
 use Rattle.std.proofs.lemmas.Bool.{cases_Bool, and_parts}
 use mathlib.Core.List.{reverse-cons}
 use Rattle.order.specs.Lists.{every, any, filter as kept}
@@ -96,3 +96,19 @@ module _ {A : Type 0} where
         | inl t ↦ rw (t, kept_reverse f xs) (sym (reverse-cons x (kept f xs)))
         | inr t ↦ rw (t, kept_reverse f xs) (append_none (reverse (kept f xs)))
       ])
+
+  -- those that are left, of which some pass
+  pub any_kept : (p q : A → Bool) (xs : List A) → any q (kept p xs) ≡ any (λ x. p x && q x) xs
+  unfolding any kept
+  any_kept p q [] = refl
+  any_kept p q (x ∷ xs) = elim (cases_Bool (p x)) [ inl t ↦ rw t (ap (λ (b : Bool). q x || b) (any_kept p q xs)) | inr t ↦ rw t (any_kept p q xs) ]
+
+  pub any_like : (p q : A → Bool) → ((x : A) → p x ≡ q x) → (xs : List A) → any p xs ≡ any q xs
+  unfolding any
+  any_like p q e [] = refl
+  any_like p q e (x ∷ xs) = rw (e x) (ap (λ (b : Bool). q x || b) (any_like p q e xs))
+
+pub any_map : {A B : Type 0} (f : B → Bool) (g : A → B) (xs : List A) → any f (map g xs) ≡ any (λ x. f (g x)) xs
+unfolding any
+any_map f g [] = refl
+any_map f g (x ∷ xs) = ap (λ (b : Bool). f (g x) || b) (any_map f g xs)

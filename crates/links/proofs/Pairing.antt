@@ -1,12 +1,11 @@
 -- Pairs of slots in one number.
-use Rattle.std.proofs.Common.{◌≡◌, ℕ, ◌+◌, ◌*◌, ◌/◌, ◌%◌, ◌^◌, ◌<◌, true, ◌&&◌, eqb, ltb, refl, sym, ap, ap₂, ◌∙◌, arith}
+use Rattle.std.proofs.Common.{◌≡◌, ℕ, ◌+◌, ◌*◌, ◌/◌, ◌%◌, ◌<◌, true, eqb, ltb, sym, ap, ap₂, ◌∙◌, arith}
 use Rattle.std.proofs.lemmas.Bool.{and_parts, and_from, ltb-true, eqb-true, eq-eqb}
 use Rattle.order.specs.declared.board.TheConstants.{CARDS}
 use Rattle.order.specs.declared.board.Link.{Link}
 use Rattle.order.specs.Board.{◌⟶◌}
 use Rattle.chains.specs.declared.cells.TheConstants.{LABELS}
-use Rattle.links.specs.declared.pairs.TheConstants.{SPREAD}
-use Rattle.links.specs.declared.layout.TheConstants.{BUCKET, BUCKETS}
+use Rattle.links.specs.declared.layout.TheConstants.{BUCKETS}
 use Rattle.links.specs.Pairs.{is_between, pair, unpair, bucket, joins}
 
 pub between_parts : (x : Link) → is_between x ≡ true → (x.from < CARDS) × (x.to < CARDS)

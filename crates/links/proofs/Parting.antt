@@ -1,16 +1,15 @@
 -- The parts of a list of entries, when one comes and when one goes.
-use Rattle.std.proofs.Common.{◌≡◌, ℕ, ◌<◌, ◌≤◌, suc, ◌+◌, Bool, true, false, not, ◌&&◌, ◌||◌, eqb, leb, List, [], ◌∷◌, map, filter, length, refl, sym, ap, ◌∙◌, subst, inl, inr, arith}
-use Rattle.std.specs.List.{list_any, list_all, IsDistinct, AllByRecursion}
+use Rattle.std.proofs.Common.{◌≡◌, ℕ, ◌<◌, ◌≤◌, suc, ◌+◌, Bool, true, false, ◌||◌, eqb, leb, List, [], ◌∷◌, map, length, refl, ap, subst, inl, inr, arith}
+use Rattle.std.specs.List.{list_all, IsDistinct, AllByRecursion}
 use Rattle.std.proofs.lemmas.Map.Keys.{IsDistinct-head, IsDistinct-tail}
-use Rattle.std.proofs.lemmas.Bool.{cases_Bool, cases_eq, eq-eqb, eqb-true, eqb-false, or_parts, and_parts}
+use Rattle.std.proofs.lemmas.Bool.{cases_Bool, eq-eqb, eqb-true, or_parts, and_parts}
 use Rattle.std.proofs.lemmas.Bool.Decides.{nat_tests}
-use Rattle.memory.specs.Columns.{cell}
 use Rattle.order.specs.declared.board.Link.{Link}
 use Rattle.chains.specs.declared.cells.Pointer.{Pointer}
 use Rattle.chains.specs.declared.chain_table.ChainTable.{ChainTable}
 use Rattle.chains.specs.Chains.{Holds, Spells, has, front, out_of}
 use Rattle.chains.specs.Tables.{at}
-use Rattle.links.specs.Pairs.{is_between, pair}
+use Rattle.links.specs.Pairs.{is_between}
 use Rattle.links.specs.Table.{Entry, point, part, listed, others}
 
 -- chains that are the same for each key
@@ -183,3 +182,10 @@ low_listed n e (y ∷ L) a t =
       | inl u ↦ let w = p.0 in grind (arith, nat_tests)
       | inr u ↦ low_listed n e L p.1 (let q : (eqb y.number e || listed e L) ≡ true = t in rw u at q)
     ]
+
+pub low_more_free : (n : ℕ) (xs : List Pointer) → list_all (λ x. leb x.held n) xs ≡ true → list_all (λ x. leb x.held (n + 1)) xs ≡ true
+low_more_free n [] a = refl
+low_more_free n (x ∷ xs) a =
+    let t = and_parts (leb x.held n) (list_all (λ z. leb z.held n) xs) a in
+    let u : leb x.held (n + 1) ≡ true = let w = t.0 in grind (arith, nat_tests) in
+    rw u (low_more_free n xs t.1)

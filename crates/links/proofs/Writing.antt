@@ -2,9 +2,8 @@
 use Rattle.std.proofs.Common.{◌≡◌, ℕ, zero, suc, ◌+◌, ◌-◌, ◌%◌, ◌^◌, ◌<◌, true, cond, ltb, List, [], ◌∷◌, refl, inl, inr, arith}
 use Rattle.std.proofs.lemmas.Bool.{cases_Bool, ltb-true}
 use Rattle.memory.specs.declared.column.Column.{Column}
-use Rattle.memory.specs.Columns.{cell, written}
-use Rattle.memory.specs.Options.{given}
-use Rattle.memory.specs.Footprints.{covered, within, Small, Writes}
+use Rattle.memory.specs.Columns.{written}
+use Rattle.memory.specs.Footprints.{within, Writes}
 use Rattle.memory.proofs.Cells.{small_cell}
 use Rattle.memory.proofs.Footprints.{same, on, less, after, put, either}
 use Rattle.memory.proofs.Options.{given_holds}
@@ -17,7 +16,7 @@ use Rattle.chains.specs.Walks.{met}
 use Rattle.chains.proofs.Framing.{pushed_writes, unhooked_writes, cleared_writes}
 use Rattle.links.specs.declared.layout.TheConstants.{ENTRIES, LIVE, USED, OUT, IN, AGE, ALL, FREE, PAIR}
 use Rattle.links.specs.Pairs.{is_between, pair, bucket}
-use Rattle.links.specs.Entries.{live, used, free_entry, taken, pointer, hung, shelved, freed, counted, inserted, found, Outcome, refused, removed, dropped, emptied, removed_all}
+use Rattle.links.specs.Entries.{live, used, free_entry, taken, pointer, hung, shelved, freed, counted, inserted, found, Outcome, removed, dropped, emptied, removed_all}
 use Rattle.links.specs.Table.{columns}
 
 -- a step of a chain behind what was written
@@ -75,7 +74,7 @@ module _ (m : List ℕ) where
       let fs = LIVE ∷ AGE.cells ∷ PAIR.cells ∷ [] in
       let w = less fs (AGE.cells ∷ PAIR.cells ∷ []) m (shelved m e) refl (shelved_writes m e) in
       put fs m (shelved m e) LIVE 0 (live (shelved m e) - 1) refl
-          (λ s. let b = small_cell (shelved m e) LIVE 0 (w.small s) in omega arith) w
+      (λ s. let b = small_cell (shelved m e) LIVE 0 (w.small s) in omega arith) w
 
 -- a link is put in
 module _ (m : List ℕ) (x : Link) where
@@ -118,10 +117,15 @@ module _ (F G : ChainTable) (b : within (F.cells ∷ []) columns ≡ true) (c : 
   unfolding emptied
   emptied_writes m s = then_cleared columns F b m _ (dropped_writes ENTRIES m s) s
 
+pub out_emptied_writes : (m : List ℕ) (s : ℕ) → Writes columns m (emptied OUT IN m s)
+out_emptied_writes m s = emptied_writes OUT IN refl refl m s
+
+pub in_emptied_writes : (m : List ℕ) (s : ℕ) → Writes columns m (emptied IN OUT m s)
+in_emptied_writes m s = emptied_writes IN OUT refl refl m s
+
 pub removed_all_writes : (m : List ℕ) (s : ℕ) → Writes columns m (removed_all m s)
 unfolding removed_all
 removed_all_writes m s =
     either columns m (ltb s CARDS) _ m
-    (on columns m (emptied OUT IN m s) (emptied IN OUT (emptied OUT IN m s) s) (emptied_writes OUT IN refl refl m s)
-    (emptied_writes IN OUT refl refl (emptied OUT IN m s) s))
+    (on columns m (emptied OUT IN m s) (emptied IN OUT (emptied OUT IN m s) s) (out_emptied_writes m s) (in_emptied_writes (emptied OUT IN m s) s))
     (same columns m)

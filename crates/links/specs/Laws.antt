@@ -5,19 +5,21 @@
 --   Finds m x o      o says whether the link x is there, and at which entry
 --   Removes m x r m' the link x is there no more, and the others stay, in their order; nothing changes if it wasn't there, and then r says so
 --   RemovesAll m s m' the links out of the slot s and into it are there no more, and the others stay, in their order
+--   Lies             no two columns of the table share a number, and all lie in the memory
 --   Begins           zeros are a table with no links
 --   StaysOnce        no link is there twice: so at first, after a link was put in that wasn't there, and after links were taken out
---   Gives            a walk along a slot's chain gives the links out of it or into it, just these, the newest first, and one along the chain of all
---                    gives them all
-use Rattle.std.specs.Prelude.{◌≡◌, ℕ, ◌<◌, ◌≤◌, Bool, true, false, not, ◌&&◌, ◌||◌, List, [], ◌∷◌, ◌++◌, map, reverse, length, replicate, is_some, is_ok, Some, Option, Err, Result, ◌==◌, nat_lt}
+--   Gives            a walk along a slot's chain gives the links out of it or into it, just these, the newest first: so what it meets at their other
+--                    ends is what is linked. A walk along the chain of all gives them all
+use Rattle.std.specs.Prelude.{◌≡◌, ℕ, ◌<◌, ◌≤◌, Bool, true, false, not, ◌&&◌, ◌||◌, List, [], ◌∷◌, ◌++◌, map, reverse, length, replicate, is_some, is_ok, Some, Option, Err, Result, ◌==◌}
 use Rattle.memory.specs.declared.column.TheConstants.{MEMORY}
 use Rattle.memory.specs.declared.column.Column.{Column}
 use Rattle.memory.specs.Columns.{cell}
-use Rattle.memory.specs.Footprints.{among}
+use Rattle.memory.specs.Footprints.{among, all_apart, all_lie}
 use Rattle.order.specs.declared.board.TheConstants.{CARDS}
 use Rattle.order.specs.declared.board.Link.{Link}
 use Rattle.order.specs.declared.board.Refusal.{Refusal}
 use Rattle.order.specs.declared.board.Refusal.TheVariants.{Missing}
+use Rattle.order.specs.Board.{◌⟶◌}
 use Rattle.order.specs.Lists.{every, any, filter}
 use Rattle.chains.specs.Walks.{walked}
 use Rattle.links.specs.declared.layout.TheConstants.{ENTRIES, OUT, IN, AGE, ALL}
@@ -46,6 +48,9 @@ unfoldable pub RemovesAll : List ℕ → ℕ → List ℕ → Type 0
 RemovesAll m s m' =
     IsTable m → IsTable m' × (edges m' ≡ filter (λ y. not (y.from == s || y.to == s)) (edges m))
 
+unfoldable pub Lies : Type 0
+Lies = (all_apart columns ≡ true) × (all_lie MEMORY columns ≡ true)
+
 unfoldable pub Begins : Type 0
 Begins =
     ((m : List ℕ) → length m ≡ MEMORY → ((c : Column) (i : ℕ) → among columns c ≡ true → cell m c i ≡ 0) → IsTable m × (edges m ≡ []))
@@ -60,4 +65,6 @@ unfoldable pub Gives : Type 0
 Gives = (m : List ℕ) → IsTable m
     → ((s : ℕ) → s < CARDS → map (λ x. x.label) (walked ENTRIES OUT m s) ≡ reverse (map (λ y. y.to) (filter (λ y. y.from == s) (edges m))))
     × ((s : ℕ) → s < CARDS → map (λ x. x.label) (walked ENTRIES IN m s) ≡ reverse (map (λ y. y.from) (filter (λ y. y.to == s) (edges m))))
+    × ((a b : ℕ) → a < CARDS → any (λ x. x.label == b) (walked ENTRIES OUT m a) ≡ any (joins (a ⟶ b)) (edges m))
+    × ((a b : ℕ) → b < CARDS → any (λ x. x.label == a) (walked ENTRIES IN m b) ≡ any (joins (a ⟶ b)) (edges m))
     × (map (λ x. x.label) (walked ENTRIES AGE m ALL) ≡ reverse (map pair (edges m)))

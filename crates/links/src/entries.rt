@@ -9,7 +9,7 @@ use chains::Pointer;
 use memory::Memory;
 
 // How many links there are.
-#[tactic(auto, using(crate::proofs::Promises::promises))]
+#[tactic(auto, using(crate::proofs::Promises::counted))]
 #[inline(always)]
 pub fn len(memory: &Memory) -> u64
     ensures is { result ≡ live memory.now }
@@ -19,11 +19,12 @@ pub fn len(memory: &Memory) -> u64
 }
 
 // Takes an entry for a link: one that is free again, or the one behind those that were ever in use, if there is one left.
-#[tactic(auto, unfolding(crate::specs::Entries::free_entry, crate::specs::Entries::taken))]
+#[tactic(auto, using(memory::proofs::Footprints::footprints), unfolding(crate::specs::Entries::free_entry, crate::specs::Entries::taken))]
 #[inline(always)]
 pub(crate) fn take_entry(memory: &mut Memory) -> Option<u64>
     ensures is { result ≡ free_entry memory.old }
     ensures after { memory.new ≡ taken memory.old }
+    ensures wrote { Writes (USED ∷ AGE.cells ∷ []) memory.old memory.new }
 {
     if let Some(pointer) = AGE.follow(memory, FREE) {
         AGE.unhook(memory, pointer.held);
@@ -38,10 +39,11 @@ pub(crate) fn take_entry(memory: &mut Memory) -> Option<u64>
 }
 
 // Takes an entry, whose link is in no slot's chain any more, out of the other chains, and gives it back.
-#[tactic(auto, unfolding(crate::specs::Entries::freed))]
+#[tactic(auto, using(memory::proofs::Footprints::footprints), unfolding(crate::specs::Entries::freed))]
 #[inline(always)]
 pub(crate) fn give_back(memory: &mut Memory, entry: u64)
-    ensures { memory.new ≡ freed memory.old entry }
+    ensures is { memory.new ≡ freed memory.old entry }
+    ensures wrote { Writes (LIVE ∷ AGE.cells ∷ PAIR.cells ∷ []) memory.old memory.new }
 {
     PAIR.unhook(memory, entry);
     AGE.unhook(memory, entry);
@@ -53,6 +55,6 @@ pub(crate) fn give_back(memory: &mut Memory, entry: u64)
             label: 0,
         },
     );
-    let live = LIVE.get(memory, 0);
+    let live = len(memory);
     LIVE.set(memory, 0, live.saturating_sub(1));
 }

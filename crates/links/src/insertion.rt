@@ -5,7 +5,7 @@ ghost use Rattle.links.specs.Table.{columns};
 ghost use Rattle.links.specs.Entries.{hung, inserted};
 ghost use Rattle.links.specs.Laws.{Inserts};
 
-use crate::entries::take_entry;
+use crate::entries::{len, take_entry};
 use crate::layout::{AGE, ALL, IN, LIVE, OUT, PAIR};
 use crate::pairs::{bucket, is_between, pair};
 use chains::Pointer;
@@ -13,10 +13,11 @@ use memory::Memory;
 use order::Link;
 
 // Puts an entry, with its link, in front of the chains that the link belongs to.
-#[tactic(auto, unfolding(crate::specs::Entries::hung))]
+#[tactic(auto, using(memory::proofs::Footprints::footprints), unfolding(crate::specs::Entries::hung))]
 #[inline(always)]
 fn hang(memory: &mut Memory, link: Link, held: u64)
-    ensures { memory.new ≡ hung memory.old link held }
+    ensures is { memory.new ≡ hung memory.old link held }
+    ensures wrote { Writes (OUT.cells ∷ IN.cells ∷ AGE.cells ∷ PAIR.cells ∷ []) memory.old memory.new }
 {
     let label = pair(link);
     OUT.push(
@@ -40,7 +41,7 @@ fn hang(memory: &mut Memory, link: Link, held: u64)
 }
 
 // Puts a link between slots into the table, behind all others; nothing if there is no entry left.
-#[tactic(auto, using(crate::proofs::Promises::promises), unfolding(crate::specs::Entries::inserted))]
+#[tactic(auto, using(crate::proofs::Promises::inserting), unfolding(crate::specs::Entries::inserted))]
 #[inline(always)]
 pub fn insert(memory: &mut Memory, link: Link)
     ensures is { memory.new ≡ inserted memory.old link }
@@ -54,6 +55,6 @@ pub fn insert(memory: &mut Memory, link: Link)
         return;
     };
     hang(memory, link, entry);
-    let live = LIVE.get(memory, 0);
+    let live = len(memory);
     LIVE.set(memory, 0, live.wrapping_add(1));
 }

@@ -1,6 +1,7 @@
 // From a link to its entry, by the chain of its bucket.
 ghost use Rattle.std.specs.Prelude.{◌≡◌};
-ghost use Rattle.links.specs.Entries.{found};
+ghost use Rattle.chains.specs.Walks.{walked};
+ghost use Rattle.links.specs.Entries.{sought, found};
 ghost use Rattle.links.specs.Laws.{Finds};
 
 use crate::layout::{ENTRIES, PAIR};
@@ -8,7 +9,18 @@ use crate::pairs::{bucket, is_between, pair};
 use memory::Memory;
 use order::Link;
 
+// The first entry of a bucket that has a label.
+#[inline(always)]
+fn seek(memory: &Memory, key: u64, label: u64) -> Option<u64>
+    ensures { result ≡ sought label (walked ENTRIES PAIR memory.now key) }
+{
+    PAIR.walk(memory, key, ENTRIES)
+        .find(|pointer| pointer.label == label)
+        .map(|pointer| pointer.held)
+}
+
 // The entry of a link, if it's there.
+#[tactic(auto, using(crate::proofs::Promises::finds_so), unfolding(crate::specs::Entries::found))]
 #[inline(always)]
 pub fn find(memory: &Memory, link: Link) -> Option<u64>
     ensures is { result ≡ found memory.now link }
@@ -17,8 +29,5 @@ pub fn find(memory: &Memory, link: Link) -> Option<u64>
     if !is_between(link) {
         return None;
     }
-    let label = pair(link);
-    PAIR.walk(memory, bucket(link), ENTRIES)
-        .find(|pointer| pointer.label == label)
-        .map(|pointer| pointer.held)
+    seek(memory, bucket(link), pair(link))
 }

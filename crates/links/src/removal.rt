@@ -13,7 +13,7 @@ use memory::Memory;
 use order::{CARDS, Link, Refusal};
 
 // Takes a link out of the table; says the entry that it had.
-#[tactic(auto, using(crate::proofs::Promises::promises), unfolding(crate::specs::Entries::removed))]
+#[tactic(auto, using(crate::proofs::Promises::removing), unfolding(crate::specs::Entries::removed))]
 #[inline(always)]
 pub fn remove(memory: &mut Memory, link: Link) -> Result<u64, Refusal>
     ensures is { result ≡ (removed memory.old link).answer }
@@ -56,7 +56,7 @@ fn empty(memory: &mut Memory, along: ChainTable, across: ChainTable, slot: u64)
 }
 
 // Takes all links out of a slot and into it out of the table.
-#[tactic(auto, using(crate::proofs::Promises::promises), unfolding(crate::specs::Entries::removed_all))]
+#[tactic(auto, using(crate::proofs::Promises::removing_all), unfolding(crate::specs::Entries::removed_all))]
 pub fn remove_all(memory: &mut Memory, slot: u64)
     ensures is { memory.new ≡ removed_all memory.old slot }
     ensures wrote { Writes columns memory.old memory.new }

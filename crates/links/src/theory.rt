@@ -1,5 +1,13 @@
 // What is proved of the table: a function for each statement that is about no single one of the operations, whose contract it is.
-ghost use Rattle.links.specs.Laws.{Begins, StaysOnce, Gives};
+ghost use Rattle.links.specs.Laws.{Lies, Begins, StaysOnce, Gives};
+
+// No two columns of the table share a number, and all lie in the memory.
+#[tactic(auto, using(crate::proofs::Beginning::lies))]
+pub fn lies_stands() -> u8
+    ensures { Lies }
+{
+    0
+}
 
 // A memory of zeros has no links.
 #[tactic(auto, using(crate::proofs::Beginning::begins))]

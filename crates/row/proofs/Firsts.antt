@@ -1,10 +1,11 @@
 -- The first number from one on that passes a test.
 use Rattle.std.proofs.Common.{◌≡◌, ℕ, zero, suc, ◌+◌, ◌-◌, ◌<◌, ◌≤◌, min, Bool, true, false, List, sym, refl, ap, ◌∙◌, inl, inr, arith}
-use Rattle.std.proofs.lemmas.Bool.{cases_lt, cases_eq}
+use Rattle.std.proofs.lemmas.Bool.{cases_Bool, cases_lt, cases_eq, both_ways}
 use Rattle.row.specs.declared.layout.TheConstants.{SEATS_MOST}
 use Rattle.row.specs.Meaning.{taken}
 use Rattle.row.specs.Telling.{first_from, next_seat}
 use Rattle.row.specs.Laws.{Next}
+use Rattle.row.proofs.Counting.{none_past}
 
 module _ (f : ℕ → Bool) where
   pub first_is : (n p q : ℕ) → p ≤ q → q < p + n → f q ≡ true → ((r : ℕ) → p ≤ r → r < q → f r ≡ false) → first_from f n p ≡ q
@@ -22,6 +23,26 @@ module _ (f : ℕ → Bool) where
       let t = o p (omega arith) (omega arith) in
       rw t (first_none n (p + 1) (λ r a b. o r (omega arith) (omega arith)) ∙ omega arith)
 
+  pub first_holds : (n p : ℕ) → (p ≤ first_from f n p) × (first_from f n p ≤ p + n) × (first_from f n p < p + n → f (first_from f n p) ≡ true)
+      × ((r : ℕ) → p ≤ r → r < first_from f n p → f r ≡ false)
+  unfolding first_from
+  first_holds zero p = (omega arith, omega arith, λ l. absurd (omega arith), λ r a b. absurd (omega arith))
+  first_holds (suc n) p = elim (cases_Bool (f p)) [
+    | inl t ↦ rw t (omega arith, omega arith, λ _. t, λ r a b. absurd (omega arith))
+    | inr t ↦
+        let h = first_holds n (p + 1) in
+        let q : ℕ = first_from f n (p + 1) in
+        let a = h.0 in let b = h.1 in
+        rw t (omega arith, omega arith, λ l. h.2 (omega arith), λ r x y. elim (cases_eq r p) [ inl e ↦ ap f e ∙ t | inr ne ↦ h.3 r (omega arith) y ])
+  ]
+
+pub next_holds : (m : List ℕ) (p : ℕ) → Next (taken m) p (next_seat m p)
+unfolding next_seat
+next_holds m p =
+    let h = first_holds (taken m) (SEATS_MOST - p) (min p SEATS_MOST) in
+    let a = h.0 in let b = h.1 in
+    record { room = omega arith; here = λ l. h.2 (omega arith); first = λ r x y. h.3 r (omega arith) y; from = λ l. omega arith }
+
 pub next_is : (m : List ℕ) (p q : ℕ) → Next (taken m) p q → q ≡ next_seat m p
 unfolding next_seat
 next_is m p q x = elim (cases_lt q SEATS_MOST) [
@@ -33,3 +54,12 @@ next_is m p q x = elim (cases_lt q SEATS_MOST) [
       let a = x.room in
       sym (first_none (taken m) (SEATS_MOST - p) (min p SEATS_MOST) (λ r b c. x.first r (omega arith) (omega arith)) ∙ omega arith)
 ]
+
+-- a taken seat is the next one from itself on
+pub next_here : (m : List ℕ) (p : ℕ) → taken m p ≡ true → Next (taken m) p p
+next_here m p h = record {
+  room = elim (cases_lt p SEATS_MOST) [ inl l ↦ omega arith | inr l ↦ absurd (both_ways (taken m p) (none_past m p l) h) ];
+  here = λ _. h;
+  first = λ r l u. absurd (omega arith);
+  from = λ _. omega arith;
+}

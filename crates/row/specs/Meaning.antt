@@ -17,9 +17,9 @@
 --   used m s         the slot s is a card's: its seat is taken, and by it
 --   place_at m s     how many cards stand before the card in the slot s
 use Rattle.std.specs.Prelude.{◌≡◌, ℕ, suc, ◌+◌, ◌*◌, ◌/◌, ◌%◌, ◌^◌, ◌<◌, ◌≤◌, min, Bool, true, false, ◌&&◌, List, [], ◌∷◌, map, length, ◌==◌, nat_lt}
-use Rattle.std.specs.List.{filter, range_with_len}
+use Rattle.std.specs.List.{range_with_len}
 use Rattle.order.specs.declared.board.TheConstants.{CARDS}
-use Rattle.order.specs.Lists.{has, distinct}
+use Rattle.order.specs.Lists.{filter, has, distinct}
 use Rattle.memory.specs.Columns.{cell}
 use Rattle.memory.specs.Footprints.{View, view}
 use Rattle.row.specs.declared.layout.TheConstants.{SEATS_MOST, HEADS, COUNT, ENDING, FRESH, FREE, IDS, CHAIN, SLOTS, SEATS, TAKEN}

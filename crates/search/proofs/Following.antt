@@ -2,8 +2,8 @@
 use Rattle.std.proofs.Common.{◌≡◌, ℕ, zero, suc, ◌+◌, ◌-◌, ◌<◌, ◌≤◌, cond, eqb, List, [], ◌∷◌, ◌++◌, map, length, get_or, take, drop, set, sym, ap, ◌∙◌, arith, length-drop}
 use Rattle.std.proofs.lemmas.Bool.{eq-eqb, ne_eqb}
 use Rattle.std.proofs.lemmas.List.{drop_more}
-use Rattle.row.proofs.Fuel.{fuel_step, fuel_end}
-use Rattle.row.proofs.Fronts.{front_more, front_all}
+use Rattle.memory.proofs.Fuel.{fuel_step, fuel_end}
+use Rattle.order.proofs.Fronts.{front_more, front_all}
 use Rattle.search.specs.Way.{trail}
 
 pub trail_few : (next : ℕ → ℕ) (n e s : ℕ) → length (trail next n e s) ≤ n

@@ -1,15 +1,15 @@
 -- The steps of the loops of the search from both ends.
 use Rattle.std.proofs.Common.{◌≡◌, ℕ, ◌+◌, ◌-◌, ◌<◌, ◌≤◌, cond, ◌&&◌, List, None, Continue}
-use Rattle.row.proofs.Fuel.{fuel_step, fuel_end}
+use Rattle.memory.proofs.Fuel.{fuel_step, fuel_end}
 use Rattle.search.specs.declared.side.Side.{Side}
 use Rattle.search.specs.declared.hunt.Part.{Part}
 use Rattle.search.specs.declared.hunt.Front.{Front}
-use Rattle.search.specs.Hunt.{spread_on, spreading, taken, idle, gone_on, met_with, hunt_on, hunted}
+use Rattle.search.specs.Hunt.{spread_on, spreading, turn, idle, gone_on, met_with, hunt_on, hunted}
 
 module _ (N i : ℕ) (m : List ℕ) (w : Part) where
   module _ (d : Side) (s p : ℕ) where
     pub spreading_at : i < N → spreading (N - i) m d w s p
-        ≡ spread_on (taken m d w s p).turn (N - (i + 1)) (taken m d w s p).memory (λ n. spreading (N - (i + 1)) (taken m d w s p).memory d w s n)
+        ≡ spread_on (turn m d w s p).told (N - (i + 1)) (turn m d w s p).memory (λ n. spreading (N - (i + 1)) (turn m d w s p).memory d w s n)
     unfolding spreading
     spreading_at h = fuel_step (λ f. spreading f m d w s p) N i h
 

@@ -4,10 +4,11 @@ use mathlib.Core.List.{reverse_aux}
 use Rattle.std.proofs.lemmas.Bool.{le-leb}
 use borrow.Rule.Slice.PartMut.{put_mid, post_of}
 use Rattle.std.proofs.lemmas.List.{append-nil, append_assoc, map-append, length-map, length-reverse, length-append, length-drop, take_at, take_all, drop_at, drop_all, drop-drop, drop-append-le, length-take-le, take-append-drop}
-use Rattle.row.specs.declared.board.Link.{Link}
-use Rattle.row.specs.Columns.{cell}
-use Rattle.row.specs.Layout.{ids}
-use Rattle.search.specs.Layout.{via}
+use Rattle.order.specs.declared.board.TheConstants.{CARDS}
+use Rattle.order.specs.declared.board.Link.{Link}
+use Rattle.memory.specs.Columns.{cell}
+use Rattle.row.specs.declared.layout.TheConstants.{IDS}
+use Rattle.search.specs.declared.layout.TheConstants.{VIA}
 use Rattle.search.specs.Way.{trail, way, shown}
 use Rattle.search.proofs.Following.{trail_few}
 
@@ -67,9 +68,9 @@ way_few next n l j =
     let js = trail next (n - length ks) l.from j.to in
     omega (arith, length-append (reverse ks) js, length-reverse ks, trail_few next n l.to j.from, trail_few next (n - length ks) l.from j.to)
 
-pub shown_is : (m : List ℕ) (l j : Link) (out : List ℕ) → 8192 ≤ length out → shown m l j out ≡ map (cell m ids) (way (cell m via) 8192 l j)
+pub shown_is : (m : List ℕ) (l j : Link) (out : List ℕ) → CARDS ≤ length out → shown m l j out ≡ map (cell m IDS) (way (cell m VIA) CARDS l j)
 unfolding shown
-shown_is m l j out h = rw (le-leb 8192 (length out) h)
+shown_is m l j out h = rw (le-leb CARDS (length out) h)
 
 -- what is written to the front of n numbers, of all of them
 pub fronted : (name : ℕ → ℕ) (ws : ℕ → List ℕ) (n r : ℕ) (out part : List ℕ) → n ≤ length out → length (ws n) ≤ n → r ≡ length (ws (length (take n out))) →

@@ -2,11 +2,11 @@
 use Rattle.std.proofs.Common.{◌≡◌, ℕ, zero, suc, ◌+◌, ◌<◌, ◌≤◌, Bool, true, false, ltb, ◌⊎◌, List, [], ◌∷◌, length, refl, ap, ◌∙◌, subst, inl, inr, arith}
 use mathlib.Core.List.{reverse_aux}
 use Rattle.std.proofs.lemmas.Bool.{cases_Bool, cases_eq, eq-eqb, ne_eqb, lt-ltb, ltb-true, and_from, and_parts}
-use Rattle.row.specs.Lists.{every, any, has, place, distinct}
-use Rattle.row.specs.Board.{Board, linked}
-use Rattle.row.specs.Commands.{follows, last_of, goes_round}
-use Rattle.row.proofs.Filters.{every_has, every_more}
-use Rattle.row.proofs.Climbs.{Fine, link_before}
+use Rattle.order.specs.Lists.{every, any, has, place, distinct}
+use Rattle.order.specs.Board.{Board, linked}
+use Rattle.order.specs.Reordering.{follows, last_of, goes_round}
+use Rattle.order.proofs.Filters.{every_has, every_more}
+use Rattle.order.proofs.Climbs.{Fine, link_before}
 use Rattle.search.specs.Way.{trail}
 
 -- xs begins with s, ends with e, each of it is linked to the next, and D has each

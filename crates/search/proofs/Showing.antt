@@ -1,51 +1,56 @@
 -- What is shown after the two searches met is a way that goes round.
-use Rattle.std.proofs.Common.{◌≡◌, ℕ, ◌+◌, ◌-◌, ◌<◌, true, List, [], ◌∷◌, map, length, refl, ◌∙◌, arith}
+use Rattle.std.proofs.Common.{◌≡◌, ℕ, ◌-◌, ◌<◌, ◌≤◌, true, List, [], ◌∷◌, ◌++◌, map, length, drop, refl, ap, ◌∙◌, arith}
 use mathlib.Core.List.{reverse_aux-eq}
-use Rattle.row.specs.declared.board.Link.{Link}
-use Rattle.row.specs.Board.{◌⟶◌, linked}
-use Rattle.row.specs.Columns.{cell}
-use Rattle.row.specs.Layout.{ids, places, count}
-use Rattle.row.specs.Meaning.{used}
-use Rattle.row.proofs.Climbs.{fine_parts, link_before}
-use Rattle.row.proofs.Present.{used_place}
-use Rattle.row.proofs.Named.{place_slot}
-use Rattle.search.specs.Layout.{fore, hind, via}
-use Rattle.search.specs.Marks.{marked}
+use Rattle.order.specs.declared.board.TheConstants.{CARDS}
+use Rattle.order.specs.declared.board.Link.{Link}
+use Rattle.order.specs.Lists.{place}
+use Rattle.order.specs.Board.{◌⟶◌, linked}
+use Rattle.order.proofs.Places.{place_below}
+use Rattle.order.proofs.Climbs.{fine_parts, link_before}
+use Rattle.memory.specs.Columns.{cell}
+use Rattle.memory.specs.PlaceSets.{marked}
+use Rattle.row.specs.declared.layout.TheConstants.{IDS, SEATS}
+use Rattle.row.specs.Meaning.{row_of, used}
+use Rattle.search.specs.declared.layout.TheConstants.{VIA, FORE, HIND}
 use Rattle.search.specs.Meaning.{slot_board, Ready, Trailed}
-use Rattle.search.specs.Way.{trail, way}
-use Rattle.search.specs.WayLaws.{way_of, ShowsWay}
+use Rattle.search.specs.Way.{trail, way, shown, ShownSo}
+use Rattle.search.specs.WayLaws.{way_of, Round, ShowsWay}
+use Rattle.search.proofs.Assumed.{has_is, row_few}
 use Rattle.search.proofs.Joining.{way_few, shown_is}
 use Rattle.search.proofs.Rounds.{Runs, runs_more, runs_round, onward, turned_round, short}
 
 module _ (m : List ℕ) (R : Ready m) where
-  slot_climbs : (s t : ℕ) → used m s ≡ true → used m t ≡ true → linked (slot_board m) s t ≡ true → cell m places s < cell m places t
-  slot_climbs s t u v l =
-      omega (arith, link_before (slot_board m) (fine_parts _ R.fine_so) s t l, place_slot m R.stands s u, place_slot m R.stands t v)
+  abbrev at : ℕ → ℕ
+  at s = place (row_of m) s
+
+  slot_climbs : (s t : ℕ) → used m s ≡ true → used m t ≡ true → linked (slot_board m) s t ≡ true → at s < at t
+  slot_climbs s t u v l = link_before (slot_board m) (fine_parts _ R.fine_so) s t l
+
+  low : (s : ℕ) → used m s ≡ true → at s < length (row_of m)
+  low s u = place_below (row_of m) s (has_is m R.is_row s ∙ u)
 
   module _ (m' : List ℕ) (a b x t : ℕ) (T : Trailed m m' a b x t) where
     abbrev back : List ℕ
-    back = trail (cell m' via) 8192 b x
+    back = trail (cell m' VIA) CARDS b x
 
     abbrev on : List ℕ
-    on = trail (cell m' via) (8192 - length back) a t
+    on = trail (cell m' VIA) (CARDS - length back) a t
 
     on_runs : Runs (slot_board m) (used m) t a on
     on_runs =
-        let k = short (slot_board m) (used m) (λ s. marked m' fore (cell m places s)) (cell m places) (cell m' via) slot_climbs b T.fore_trail 8192 x
+        let k = short (slot_board m) (used m) (λ s. marked m' FORE.column (cell m SEATS s)) at (cell m' VIA) slot_climbs b T.fore_trail CARDS x
         T.x_used T.x_fore in
         let l = slot_climbs x t T.x_used T.t_used T.joined in
-        let f = R.stands.stands.few in
-        let g = R.stands.stands.room in
-        onward (slot_board m) (used m) (λ s. marked m' hind (cell m places s)) (cell m places) (cell m' via) slot_climbs a T.hind_trail (count m)
-        (8192 - length back) t (λ u w. (used_place m R.stands u w).0) T.t_used T.t_hind (omega arith)
+        let f = row_few m R.is_row in
+        onward (slot_board m) (used m) (λ s. marked m' HIND.column (cell m SEATS s)) at (cell m' VIA) slot_climbs a T.hind_trail (length (row_of m))
+        (CARDS - length back) t low T.t_used T.t_hind (omega arith)
 
     way_runs : Runs (slot_board m) (used m) b a (way_of m' a b x t)
     unfolding way
     way_runs =
-        let f = R.stands.stands.few in
-        let g = R.stands.stands.room in
-        let w = turned_round (slot_board m) (used m) (λ s. marked m' fore (cell m places s)) (cell m places) (cell m' via) slot_climbs b T.fore_trail 8192 x
-        a on T.x_used T.x_fore (omega (arith, (used_place m R.stands x T.x_used).0))
+        let f = row_few m R.is_row in
+        let w = turned_round (slot_board m) (used m) (λ s. marked m' FORE.column (cell m SEATS s)) at (cell m' VIA) slot_climbs b T.fore_trail CARDS x
+        a on T.x_used T.x_fore (omega (arith, low x T.x_used))
         (runs_more (slot_board m) (used m) x t a on T.x_used T.joined on_runs) in
         rw (reverse_aux-eq back on) at w
 
@@ -53,12 +58,18 @@ pub map_same : (f g : ℕ → ℕ) → ((s : ℕ) → f s ≡ g s) → (xs : Lis
 map_same f g h [] = refl
 map_same f g h (x ∷ xs) = let ih = map_same f g h xs in let e = h x in cc
 
-pub shows_way : ShowsWay
+pub shows_way : (m m' : List ℕ) (a b x t : ℕ) (out : List ℕ) → Ready m → Trailed m m' a b x t → CARDS ≤ length out → Round m m' a b x t out
 shows_way m m' a b x t out R T h =
     let w = runs_round (slot_board m) (used m) (fine_parts _ R.fine_so) a b (way_of m' a b x t) (way_runs m R m' a b x t T) in
     record {
       round = w.0;
       cards = w.1;
-      few = way_few (cell m' via) 8192 (a ⟶ b) (x ⟶ t);
-      is = shown_is m' (a ⟶ b) (x ⟶ t) out h ∙ map_same (cell m' ids) (cell m ids) T.kept.same_ids (way_of m' a b x t);
+      few = way_few (cell m' VIA) CARDS (a ⟶ b) (x ⟶ t);
+      is = shown_is m' (a ⟶ b) (x ⟶ t) out h ∙ map_same (cell m' IDS) (cell m IDS) (λ s. T.kept.others IDS s refl) (way_of m' a b x t);
     }
+
+pub shows_so : (m : List ℕ) (l j : Link) (out : List ℕ) (n : ℕ) (out' : List ℕ) → ShownSo (shown m l j out) out n out' → ShowsWay m l j out n out'
+unfolding ShowsWay
+shows_so m' l j out n out' s m R T h =
+    let r = shows_way m m' l.from l.to j.from j.to out R T h in
+    (r, record { count = s.count ∙ ap length r.is; out = s.out ∙ ap (λ ks. ks ++ drop n out) r.is })

@@ -3,12 +3,12 @@
 
 mod input;
 
-ghost use Rattle.row.specs.Kept.{Names};
+ghost use Rattle.order.specs.Kept.{Names};
 
 use anyhow::{Context, ensure};
 use input::{Question, decode, split};
 use program::Program;
-use row::{Misfit, kept};
+use order::{Misfit, kept};
 use std::env;
 use std::process::ExitCode;
 
@@ -74,7 +74,7 @@ fn main(rt: HostRuntime) -> ExitCode {
 
 #[cfg(test)]
 mod tests {
-    use row::{Misfit, kept};
+    use order::{Misfit, kept};
     use std::test::Fail;
 
     const ROW: [u64; 6] = [1, 5, 2, 4, 3, 6];

@@ -22,7 +22,7 @@ loop-place-preserved g c =
       λ v h.
           ap (λ (i : ℕ). filled v d (end - i) c.set.new.memory i) s.1.2
           ∙ ap (λ (m₁ : List ℕ). filled v d (end - (p + 1)) m₁ (p + 1))
-          (c.set.ensures ∙ ap₂ (written m d) s.1.1 (h _ _ _ c.value-number.ensures ∙ ap (v m) s.1.1))
+          (c.set.ensures.is ∙ ap₂ (written m d) s.1.1 (h _ _ _ c.value-number.ensures ∙ ap (v m) s.1.1))
           ∙ sym (each_go _ end p m (omega (arith, s.1.0, c.loop-place.invariant.0))) ∙ c.loop-place.invariant.1 v h,
     )
 

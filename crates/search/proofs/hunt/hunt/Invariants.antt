@@ -1,6 +1,7 @@
 use Rattle.std.proofs.Common.{◌≡◌, ◌-◌}
+use Rattle.search.specs.declared.hunt.TheConstants.{TURNS}
 use Rattle.search.specs.Hunt.{hunted}
 use Rattle.search.proofs.hunt.hunt.Given as goal
 
 abbrev pub invariant-loop-turn : goal.invariant-loop-turn
-invariant-loop-turn l = hunted (16384 - l._turn) l.memory l.part l.near l.far ≡ hunted 16384 l.initial.memory l.part l.initial.near l.initial.far
+invariant-loop-turn l = hunted (TURNS - l._turn) l.memory l.part l.near l.far ≡ hunted TURNS l.initial.memory l.part l.initial.near l.initial.far

@@ -1,9 +1,10 @@
 use Rattle.std.proofs.Common.{ℕ, List, ◌++◌, length, drop, sym, ap, ◌∙◌, arith}
 use Rattle.std.proofs.lemmas.Bool.Decides.{nat_tests}
 use Rattle.std.proofs.lemmas.List.{length-map}
-use Rattle.row.specs.Columns.{cell}
-use Rattle.row.specs.Layout.{ids}
-use Rattle.search.specs.Layout.{via}
+use Rattle.order.specs.declared.board.TheConstants.{CARDS}
+use Rattle.memory.specs.Columns.{cell}
+use Rattle.row.specs.declared.layout.TheConstants.{IDS}
+use Rattle.search.specs.declared.layout.TheConstants.{VIA}
 use Rattle.search.specs.Way.{way, shown}
 use Rattle.search.proofs.Joining.{way_few, shown_is, fronted}
 use Rattle.search.proofs.way.show.Goals as goal
@@ -16,11 +17,11 @@ pub returns : goal.returns
 returns c =
     let m = c.args.memory.now in
     let out = c.args.out.now in
-    let ws = λ (n : ℕ). way (cell m via) n c.args.link c.args.joint in
-    let f = fronted _ ws 8192 _ _ _ c.if-out-room.false (way_few (cell m via) 8192 c.args.link c.args.joint) c.trace.ensures.is
+    let ws = λ (n : ℕ). way (cell m VIA) n c.args.link c.args.joint in
+    let f = fronted _ ws CARDS _ _ _ c.if-out-room.false (way_few (cell m VIA) CARDS c.args.link c.args.joint) c.trace.ensures.is
     c.trace.ensures.out in
     let s = sym (shown_is m c.args.link c.args.joint out c.if-out-room.false) in
     record {
-      count = f.0 ∙ sym (length-map (ws 8192) (cell m ids)) ∙ ap length s;
+      count = f.0 ∙ sym (length-map (ws CARDS) (cell m IDS)) ∙ ap length s;
       out = f.1 ∙ ap (λ (xs : List ℕ). xs ++ drop c.trace.result out) s;
     }

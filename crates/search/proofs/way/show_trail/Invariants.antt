@@ -1,7 +1,7 @@
-use Rattle.row.specs.Columns.{cell}
-use Rattle.row.specs.Layout.{ids}
+use Rattle.memory.specs.Columns.{cell}
+use Rattle.row.specs.declared.layout.TheConstants.{IDS}
 use Rattle.search.proofs.Following.{Walked}
 use Rattle.search.proofs.way.show_trail.Given as goal
 
 abbrev pub invariant-loop-i : goal.invariant-loop-i
-invariant-loop-i l = Walked (cell l.memory l.by) (cell l.memory ids) l.last l.first l.initial.out l.out l.i l.slot
+invariant-loop-i l = Walked (cell l.memory l.by) (cell l.memory IDS) l.last l.first l.initial.out l.out l.i l.slot

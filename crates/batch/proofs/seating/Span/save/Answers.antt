@@ -1,14 +1,14 @@
 use Rattle.std.proofs.Common.{ℕ, ◌-◌, List, ap, ◌∙◌, rules}
 use Rattle.memory.specs.Columns.{cell}
-use Rattle.row.specs.Layout.{slots}
+use Rattle.row.specs.declared.layout.TheConstants.{SLOTS}
 use Rattle.batch.specs.Arranging.{filled}
 use Rattle.batch.specs.Seating.{saved}
 use Rattle.batch.proofs.seating.Span.save.Goals as goal
 
-pub returns : goal.returns
+pub returns-clause-is : goal.returns-clause-is
 unfolding filled saved
-returns c =
+returns-clause-is c =
     let m = c.args.memory.now in
     let p = c.args.self.low in
-    c.fill.ensures (λ (m₁ : List ℕ) (q : ℕ). cell m₁ slots q) (λ m₁ i r h. search rules)
+    c.fill.ensures (λ (m₁ : List ℕ) (q : ℕ). cell m₁ SLOTS q) (λ m₁ i r h. search rules)
     ∙ ap (λ (n : ℕ). saved (n - p) m p) c.min.ensures

@@ -4,5 +4,5 @@ use Rattle.search.proofs.hunt.Search.spread_from.Given as goal
 
 abbrev pub invariant-loop-i : goal.invariant-loop-i
 invariant-loop-i l =
-    spreading (l.fuel - l.i) l.memory l.self.side l.self.part l.slot l.pointer
+    spreading (l.fuel - l.i) l.memory l.self.side l.self.part l.slot l.place
     ≡ spreading l.fuel l.initial.memory l.self.side l.self.part l.slot l.slot

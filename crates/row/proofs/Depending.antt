@@ -1,0 +1,23 @@
+-- What the row means depends on the columns of this crate alone.
+use Rattle.std.proofs.Common.{◌≡◌, ℕ, ◌/◌, ◌%◌, true, Bool, List, map, min, ap}
+use Rattle.memory.specs.declared.column.Column.{Column}
+use Rattle.memory.specs.Footprints.{View, view, clear_all, Writes}
+use Rattle.memory.proofs.Footprints.{view_same, kept}
+use Rattle.row.specs.declared.layout.TheConstants.{SEATS_MOST, ENDING, IDS, SLOTS, SEATS, TAKEN}
+use Rattle.row.specs.Columns.{columns}
+use Rattle.row.specs.Meaning.{bit_set, listed, amount, in_use, row_of, cards, used, place_at, RowIn, IsRow}
+use Rattle.row.specs.Theory.{SameRow, Depends}
+
+abbrev row_in : View → List ℕ
+row_in v = listed (v.at SLOTS) (bit_set (v.at TAKEN)) (min (v.at ENDING 0) SEATS_MOST)
+
+pub depends : Depends
+depends fs m n c w =
+    let e = view_same fs columns c m n w in
+    record {
+      is_row = λ S. kept fs columns c m n w RowIn S;
+      same_cards = ap (λ (v : View). map (v.at IDS) (row_in v)) e;
+      same_row = ap row_in e;
+      same_used = λ s. ap (λ (v : View). in_use (v.at SLOTS) (v.at SEATS) (bit_set (v.at TAKEN)) s) e;
+      same_places = λ s. ap (λ (v : View). amount (bit_set (v.at TAKEN)) (v.at SEATS s)) e;
+    }

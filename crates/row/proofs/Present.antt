@@ -1,0 +1,172 @@
+-- The cards in the row: they stand in slots in use, a card is found if and only if it's there, and at its place.
+use Rattle.std.proofs.Common.{◌≡◌, ℕ, zero, suc, ◌+◌, ◌<◌, ◌≤◌, Bool, true, false, cond, eqb, List, [], ◌∷◌, ◌++◌, map, length, get_or, Some, None, sym, refl, ap, ◌∙◌, subst, inl, inr, arith}
+use lib.ListN.{length-map}
+use Rattle.std.proofs.lemmas.Bool.{cases_Bool, cond_both, eq-eqb, eqb-true, and_parts, and_from, or_left, or_right, both_ways}
+use Rattle.std.proofs.lemmas.List.{append-nil}
+use Rattle.order.specs.declared.board.TheConstants.{CARDS}
+use Rattle.order.specs.Lists.{every, any, has, place, distinct}
+use Rattle.order.proofs.Filters.{every_append, distinct_push}
+use Rattle.order.proofs.Members.{few_below}
+use Rattle.order.proofs.RenamesLists.{has_map, place_map, distinct_map}
+use Rattle.memory.specs.Columns.{cell}
+use Rattle.row.specs.declared.layout.TheConstants.{SEATS_MOST, HEADS, COUNT, ENDING, FRESH, FREE, IDS, CHAIN, SLOTS, SEATS, TAKEN}
+use Rattle.row.specs.Lookup.{bucket, entry, sought, found}
+use Rattle.row.specs.Meaning.{listed, amount, count, ending, fresh, free, taken, rank, row_of, cards, used, place_at, Standing, IsRow}
+use Rattle.row.specs.Moves.{place_found}
+use Rattle.row.proofs.Chaining.{holder}
+use Rattle.row.proofs.Seeking.{sought_none, sought_some}
+use Rattle.row.proofs.Hashing.{bucket_below}
+use Rattle.row.proofs.Listing.{listed_none, listed_more}
+use Rattle.row.proofs.Along.{has_not}
+use Rattle.row.proofs.Seatings.{one_seat}
+use Rattle.row.proofs.Rows.{seated, length_row, sitting, at_seat, has_is, place_is, rank_below, slot_is}
+
+-- every number that is listed passes a test
+every_listed : (D : ℕ → Bool) (r : ℕ → ℕ) (f : ℕ → Bool) (n : ℕ) → ((p : ℕ) → f p ≡ true → D (r p) ≡ true) → every D (listed r f n) ≡ true
+unfolding every
+every_listed D r f zero h = ap (every D) (listed_none r f)
+every_listed D r f (suc n) h = ap (every D) (listed_more r f n) ∙ every_append D (listed r f n) (cond (f n) (r n ∷ []) []) ∙ and_from _ _ (every_listed D r f n h) (last (f n) refl)
+  where
+    last : (b : Bool) → f n ≡ b → every D (cond b (r n ∷ []) []) ≡ true
+    last true e = let t = h n e in and_from _ _ t refl
+    last false e = refl
+
+-- what another name is of, in a list
+named_in : (f : ℕ → ℕ) (xs : List ℕ) (k : ℕ) → has (map f xs) k ≡ true → (s : ℕ) × (has xs s ≡ true) × (f s ≡ k)
+unfolding any
+named_in f [] k h = absurd (both_ways false refl h)
+named_in f (x ∷ xs) k h = elim (cases_Bool (eqb k (f x))) [
+  | inl e ↦ (x, or_left _ _ (eq-eqb x x refl), sym (eqb-true k (f x) e))
+  | inr e ↦ let w = named_in f xs k (grind arith) in (w.0, or_right _ _ w.1, w.2)
+]
+
+module _ (m : List ℕ) (S : IsRow m) where
+  pub standing : Standing (count m) (ending m) (fresh m) (free m) (cell m IDS) (cell m CHAIN) (cell m SLOTS) (cell m SEATS) (taken m)
+  standing = S.stands
+
+  pub long_row : TAKEN.base + TAKEN.size ≤ length m
+  long_row = S.long
+
+  pub one_slot : (s t : ℕ) → used m s ≡ true → used m t ≡ true → cell m IDS s ≡ cell m IDS t → s ≡ t
+  one_slot = standing.one_slot
+
+  -- the slots in use
+  pub used_below : (t : ℕ) → used m t ≡ true → t < CARDS
+  used_below t u = (sitting m (seated m S) t u).0
+
+  pub used_seat : (t : ℕ) → used m t ≡ true → (taken m (cell m SEATS t) ≡ true) × (cell m SLOTS (cell m SEATS t) ≡ t)
+  used_seat t u = let w = sitting m (seated m S) t u in (w.1, w.2)
+
+  pub slot_used : (p : ℕ) → taken m p ≡ true → (used m (cell m SLOTS p) ≡ true) × (cell m SEATS (cell m SLOTS p) ≡ p)
+  slot_used p h = (at_seat m (seated m S) p h, standing.seated.seat_of p h)
+
+  pub row_used : every (used m) (row_of m) ≡ true
+  row_used = every_listed (used m) (cell m SLOTS) (taken m) (ending m) (at_seat m (seated m S))
+
+  pub has_used : (s : ℕ) → has (row_of m) s ≡ used m s
+  has_used = has_is m (seated m S)
+
+  pub has_slot : (s : ℕ) → used m s ≡ true → has (row_of m) s ≡ true
+  has_slot s u = has_used s ∙ u
+
+  pub place_slot : (s : ℕ) → used m s ≡ true → place (row_of m) s ≡ place_at m s
+  place_slot = place_is m (seated m S)
+
+  pub length_slots : length (row_of m) ≡ count m
+  length_slots = length_row m (seated m S)
+
+  pub used_place : (t : ℕ) → used m t ≡ true → (place_at m t < count m) × (get_or (row_of m) (place_at m t) 0 ≡ t)
+  used_place t u =
+      let w = used_seat t u in
+      let r = rank_below m (seated m S) (cell m SEATS t) w.0 in
+      let l = length_slots in
+      (omega arith, slot_is m (seated m S) (cell m SEATS t) w.0 ∙ w.1)
+
+  -- their cards
+  pub length_cards : length (cards m) ≡ count m
+  length_cards = length-map (row_of m) (cell m IDS) ∙ length_slots
+
+  pub few_cards : count m ≤ CARDS
+  few_cards = let a = standing.freed.all in let b = standing.freed.few in omega arith
+
+  pub has_card : (t : ℕ) → used m t ≡ true → has (cards m) (cell m IDS t) ≡ true
+  has_card t u = has_map (cell m IDS) (used m) one_slot (row_of m) t row_used u ∙ has_slot t u
+
+  pub place_card : (t : ℕ) → used m t ≡ true → place (cards m) (cell m IDS t) ≡ place_at m t
+  place_card t u = place_map (cell m IDS) (used m) one_slot (row_of m) t row_used u ∙ place_slot t u
+
+  -- the slot of a card that's there
+  pub card_slot : (k : ℕ) → has (cards m) k ≡ true → (s : ℕ) × (used m s ≡ true) × (cell m IDS s ≡ k)
+  card_slot k h = let w = named_in (cell m IDS) (row_of m) k h in (w.0, sym (has_used w.0) ∙ w.1, w.2)
+
+  -- looking for a card
+  pub chain_below : (b t : ℕ) → b < HEADS → has (standing.chains.of b) t ≡ true → t < CARDS
+  chain_below b t l h = used_below t (and_parts _ _ (sym (standing.chains.holds b t l) ∙ h)).0
+
+  pub sought_there : (s : ℕ) → used m s ≡ true →
+      sought CARDS m (bucket (cell m IDS s)) (cell m IDS s)
+      ≡ Some (entry (holder (bucket (cell m IDS s)) (standing.chains.of (bucket (cell m IDS s))) s) s)
+  sought_there s u =
+      let k = cell m IDS s in
+      let b = bucket k in
+      let l = bucket_below k in
+      let C = standing.chains in
+      let xs = C.of b in
+      sought_some m k CARDS xs b s (C.spells b l) (λ t h. chain_below b t l h)
+      (few_below CARDS xs (C.once b l) (λ t h. chain_below b t l h))
+      (C.holds b s l ∙ and_from _ _ u (eq-eqb b b refl)) refl
+      (λ t h e. one_slot t s (and_parts _ _ (sym (C.holds b t l) ∙ h)).0 u e)
+
+  pub sought_absent : (k : ℕ) → has (cards m) k ≡ false → sought CARDS m (bucket k) k ≡ None
+  sought_absent k n =
+      let b = bucket k in
+      let l = bucket_below k in
+      let C = standing.chains in
+      sought_none m k CARDS (C.of b) b (C.spells b l) (λ t h. chain_below b t l h)
+      (λ t h e. both_ways (has (cards m) k) n (ap (has (cards m)) (sym e) ∙ has_card t (and_parts _ _ (sym (C.holds b t l) ∙ h)).0))
+
+  pub found_there : (s : ℕ) → used m s ≡ true → found m (cell m IDS s) ≡ Some s
+  unfolding found
+  found_there s u = rw (sought_there s u)
+
+  pub found_absent : (k : ℕ) → has (cards m) k ≡ false → found m k ≡ None
+  unfolding found
+  found_absent k n = rw (sought_absent k n)
+
+-- no slot stands twice: two seats have two slots
+distinct_listed : (r : ℕ → ℕ) (f : ℕ → Bool) (n : ℕ) → ((p q : ℕ) → f p ≡ true → f q ≡ true → r p ≡ r q → p ≡ q) → distinct (listed r f n) ≡ true
+unfolding distinct
+distinct_listed r f zero h = ap distinct (listed_none r f)
+distinct_listed r f (suc n) h =
+    ap distinct (listed_more r f n)
+    ∙ cond_both (f n) (r n ∷ []) [] (λ (ys : List ℕ). distinct (listed r f n ++ ys) ≡ true)
+    (λ y. distinct_push (listed r f n) (r n) (distinct_listed r f n h) (has_not r f (r n) n (λ p l u e. let i = h p n u y e in omega arith)))
+    (λ _. ap distinct (append-nil (listed r f n)) ∙ distinct_listed r f n h)
+
+pub apart_slots : (m : List ℕ) → IsRow m → distinct (row_of m) ≡ true
+apart_slots m S = distinct_listed (cell m SLOTS) (taken m) (ending m) (one_seat S.stands.seated)
+
+-- no card stands twice
+pub apart : (m : List ℕ) → IsRow m → distinct (cards m) ≡ true
+apart m S = distinct_map (cell m IDS) (used m) (one_slot m S) (row_of m) (row_used m S) ∙ apart_slots m S
+
+-- a card is found just if it's there, and at its place
+pub finds_place : (m : List ℕ) (k : ℕ) → IsRow m → place_found m k ≡ cond (has (cards m) k) (Some (place (cards m) k)) None
+unfolding place_found
+finds_place m k S = elim (cases_Bool (has (cards m) k)) [
+  | inl h ↦
+      let w = card_slot m S k h in
+      let e : found m k ≡ Some w.0 = ap (found m) (sym w.2) ∙ found_there m S w.0 w.1 in
+      rw (h, e) (ap Some (sym (place_card m S w.0 w.1) ∙ ap (place (cards m)) w.2))
+  | inr h ↦ rw (h, found_absent m S k h)
+]
+
+pub finds : (m : List ℕ) (k : ℕ) → IsRow m →
+    (place_found m k ≡ cond (has (cards m) k) (Some (place (cards m) k)) None)
+    × (has (cards m) k ≡ false → found m k ≡ None)
+    × (has (cards m) k ≡ true → (s : ℕ) × (found m k ≡ Some s) × (used m s ≡ true) × (cell m IDS s ≡ k))
+finds m k S = (
+  finds_place m k S,
+  (λ n. found_absent m S k n),
+  (λ h. let w = card_slot m S k h in (w.0, ap (found m) (sym w.2) ∙ found_there m S w.0 w.1, w.1, w.2)),
+)
