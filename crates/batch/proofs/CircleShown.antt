@@ -1,5 +1,6 @@
 -- What is shown if not all cards come is a circle of links.
 use Rattle.std.proofs.Common.{◌≡◌, ℕ, ◌+◌, ◌<◌, ◌≤◌, min, Bool, true, false, not, ◌&&◌, eqb, ltb, List, length, is_some, sym, refl, ap, ◌∙◌, subst, inl, inr, arith}
+use Rattle.order.specs.declared.board.TheConstants.{CARDS}
 use Rattle.std.proofs.lemmas.List.FromFn.{length-map-range_with_len}
 use Rattle.std.proofs.lemmas.Bool.{both_ways, and_parts, and_from, eqb-true, eq-eqb}
 use Rattle.order.specs.declared.board.Link.{Link}
@@ -7,7 +8,8 @@ use Rattle.memory.specs.declared.column.Column.{Column}
 use Rattle.order.specs.Lists.{every, any, has, distinct}
 use Rattle.order.specs.Board.{linked}
 use Rattle.memory.specs.Columns.{cell, apart}
-use Rattle.row.specs.Layout.{tally, ids, slots, count}
+use Rattle.row.specs.declared.layout.TheConstants.{IDS, SLOTS}
+use Rattle.row.specs.Meaning.{count}
 use Rattle.row.specs.Meaning.{row_of, used, Stands}
 use Rattle.order.proofs.Filters.{every_has, every_at, every_more}
 use Rattle.order.proofs.Tabulated.{made_has}
@@ -22,7 +24,7 @@ use Rattle.links.specs.Meaning.{edges_of, edges, Tabled}
 use Rattle.links.proofs.Edging.{newest_any}
 use Rattle.links.proofs.Telling.{newest_at, some_edge}
 use Rattle.search.specs.Meaning.{slot_board}
-use Rattle.batch.specs.Layout.{spare, leaves, numbers}
+use Rattle.batch.specs.declared.layout.TheConstants.{SPARE, LEAVES, NUMBERS}
 use Rattle.batch.specs.Several.{circle}
 use Rattle.batch.specs.Rule.{anew}
 use Rattle.batch.specs.RuleLaws.{within_row}
@@ -47,7 +49,7 @@ edge_at d g p e h = elim (none_or_some (newest (λ l. not (d l) && p (g l)) e)) 
 ]
 
 -- m is the memory in which the row was made anew, of n slots that have come, and not all have
-module _ (m : List ℕ) (n : ℕ) (long : numbers.base + numbers.size ≤ length m) (S : Stands m) (T : Tabled m) (within : within_row (row_of m) (edges m))
+module _ (m : List ℕ) (n : ℕ) (long : NUMBERS.base + NUMBERS.size ≤ length m) (S : Stands m) (T : Tabled m) (within : within_row (row_of m) (edges m))
     (apart_row : distinct (row_of m) ≡ true) (come : new_row m n ≡ anew (edges m) (row_of m)) (few : n < count m) where
   abbrev y : List ℕ
   y = flags m n
@@ -63,12 +65,12 @@ module _ (m : List ℕ) (n : ℕ) (long : numbers.base + numbers.size ≤ length
   late s = used m s && not (gone s)
 
   abbrev Else : Column → Type 0
-  Else d = (apart leaves d ≡ true) × (apart numbers d ≡ true)
+  Else d = (apart LEAVES d ≡ true) × (apart NUMBERS d ≡ true)
 
-  y_beside : Beside (λ (d : Column). apart leaves d ≡ true) m y
-  y_beside = beside_flags m n (λ (d : Column). apart leaves d ≡ true) (λ d t. t)
+  y_beside : Beside (λ (d : Column). apart LEAVES d ≡ true) m y
+  y_beside = beside_flags m n (λ (d : Column). apart LEAVES d ≡ true) (λ d t. t)
 
-  long_y : numbers.base + numbers.size ≤ length y
+  long_y : NUMBERS.base + NUMBERS.size ≤ length y
   long_y = omega (arith, y_beside.as_long, long)
 
   end_y : min (end y) 67584 ≡ end m
@@ -90,10 +92,10 @@ module _ (m : List ℕ) (n : ℕ) (long : numbers.base + numbers.size ≤ length
 
   x_stays : (s : ℕ) → stays x s ≡ stays y s
   unfolding stays
-  x_stays s = rw (x_beside.others leaves s refl)
+  x_stays s = rw (x_beside.others LEAVES s refl)
 
   -- what is noted for a slot that hasn't come: one that hasn't come either, and is linked to it
-  noted_from : (l a s : ℕ) → l < end m → cell m froms l ≡ a → cell m tos l ≡ s → used m a ≡ true → gone a ≡ false → s < 8192 → Noted y (end m) long_y s x
+  noted_from : (l a s : ℕ) → l < end m → cell m froms l ≡ a → cell m tos l ≡ s → used m a ≡ true → gone a ≡ false → s < CARDS → Noted y (end m) long_y s x
   noted_from l a s i f t u g h =
       subst (Noted y (end m) long_y s) (sym x_is)
       (all_noted y (end m) long_y (end m) y 0 l s (beside_same NotNumbers y) (omega arith) (omega arith) (omega arith)
@@ -109,7 +111,7 @@ module _ (m : List ℕ) (n : ℕ) (long : numbers.base + numbers.size ≤ length
       (used_below m S s u.0)
 
   abbrev next : ℕ → ℕ
-  next = cell x numbers
+  next = cell x NUMBERS
 
   goes_back : (s : ℕ) → late s ≡ true → (late (next s) ≡ true) × (linked (slot_board m) (next s) s ≡ true)
   unfolding stays
@@ -118,7 +120,7 @@ module _ (m : List ℕ) (n : ℕ) (long : numbers.base + numbers.size ≤ length
       let l = w.entry in
       let f : next s ≡ cell m froms l = w.is ∙ y_beside.others froms l refl in
       let t : cell m tos l ≡ s = sym (y_beside.others tos l refl) ∙ w.into in
-      let q = and_parts (ltb (cell y froms l) 8192) (eqb (cell y leaves (cell y froms l)) 0) w.late in
+      let q = and_parts (ltb (cell y froms l) CARDS) (eqb (cell y LEAVES (cell y froms l)) 0) w.late in
       let alive : dead m l ≡ false = let b = y_beside.others froms l refl in rw (sym (rw b at (sym q.0))) refl in
       let e : linked (slot_board m) (next s) s ≡ true =
       some_edge (dead m) (link_at m) (λ z. eqb z.from (next s) && eqb z.to s) (end m) l w.inside alive
@@ -129,43 +131,43 @@ module _ (m : List ℕ) (n : ℕ) (long : numbers.base + numbers.size ≤ length
       (and_from _ _ u (sym (y_stays (next s) u) ∙ v), e)
 
   -- one that hasn't come, to start from
-  x_slots : (p : ℕ) → cell x slots p ≡ cell m slots p
-  x_slots p = x_beside.others slots p refl ∙ y_beside.others slots p refl
+  x_slots : (p : ℕ) → cell x SLOTS p ≡ cell m SLOTS p
+  x_slots p = x_beside.others SLOTS p refl ∙ y_beside.others SLOTS p refl
 
-  x_count : min (count x) 8192 ≡ count m
+  x_count : min (count x) CARDS ≡ count m
   x_count = let e = x_beside.others tally 0 refl ∙ y_beside.others tally 0 refl in let a = S.stands.few in let b = S.stands.room in omega arith
 
-  late_at : (p : ℕ) → p < count m → stays x (cell x slots p) ≡ not (gone (cell m slots p))
-  late_at p h = ap (stays x) (x_slots p) ∙ x_stays (cell m slots p) ∙ y_stays (cell m slots p) (slot_used m S p h)
+  late_at : (p : ℕ) → p < count m → stays x (cell x SLOTS p) ≡ not (gone (cell m SLOTS p))
+  late_at p h = ap (stays x) (x_slots p) ∙ x_stays (cell m SLOTS p) ∙ y_stays (cell m SLOTS p) (slot_used m S p h)
 
-  some_late : (p : ℕ) × (p < count m) × (gone (cell m slots p) ≡ false)
+  some_late : (p : ℕ) × (p < count m) × (gone (cell m SLOTS p) ≡ false)
   some_late =
       let o = one_not (row_of m) (new_row m n) apart_row
-      (omega (arith, length-map-range_with_len (cell m slots) 0 (count m), length-map-range_with_len (cell m spare) 0 n)) in
-      let q = made_has (cell m slots) 0 (count m) o.0 o.1 in
+      (omega (arith, length-map-range_with_len (cell m SLOTS) 0 (count m), length-map-range_with_len (cell m SPARE) 0 n)) in
+      let q = made_has (cell m SLOTS) 0 (count m) o.0 o.1 in
       (q.0, omega (arith, q.2), ap gone q.3 ∙ ap (λ (ks : List ℕ). has ks o.0) (sym come) ∙ o.2)
 
-  start_at : (p : ℕ) → p < count m → start x ≡ cell x slots p → stays x (cell x slots p) ≡ true → late (start x) ≡ true
+  start_at : (p : ℕ) → p < count m → start x ≡ cell x SLOTS p → stays x (cell x SLOTS p) ≡ true → late (start x) ≡ true
   start_at p h e t = ap late (e ∙ x_slots p) ∙ and_from _ _ (slot_used m S p h) (sym (late_at p h) ∙ t)
 
   start_late : late (start x) ≡ true
   start_late =
       let q = some_late in
-      let w = first_left_is (min (count x) 8192) x 0 q.0 (omega arith) (omega (arith, x_count, q.1)) (late_at q.0 q.1 ∙ rw q.2 refl) in
+      let w = first_left_is (min (count x) CARDS) x 0 q.0 (omega arith) (omega (arith, x_count, q.1)) (late_at q.0 q.1 ∙ rw q.2 refl) in
       start_at w.0 (omega (arith, x_count, w.1)) w.2 w.3
 
-  pub shows_circle : (N : ℕ) → 8192 ≤ N → (circle (slot_board m) (round x N) ≡ true) × (every (used m) (round x N) ≡ true)
+  pub shows_circle : (N : ℕ) → CARDS ≤ N → (circle (slot_board m) (round x N) ≡ true) × (every (used m) (round x N) ≡ true)
   unfolding round on_circle
   shows_circle N h =
       let in_row : (s : ℕ) → late s ≡ true → has (row_of m) s ≡ true = λ s d. has_slot m S s (and_parts (used m s) (not (gone s)) d).0 in
-      let e = back next 8192 (start x) in
+      let e = back next CARDS (start x) in
       let a = S.stands.few in
       let b = S.stands.room in
-      let w = comes_round next late (λ s d. (goes_back s d).0) (row_of m) in_row 8192 (start x) (omega (arith, length-map-range_with_len (cell m slots) 0 (count m)))
+      let w = comes_round next late (λ s d. (goes_back s d).0) (row_of m) in_row CARDS (start x) (omega (arith, length-map-range_with_len (cell m SLOTS) 0 (count m)))
       start_late in
-      let d = stays_inside next late (λ s d. (goes_back s d).0) (row_of m) in_row 8192 (start x) start_late in
+      let d = stays_inside next late (λ s d. (goes_back s d).0) (row_of m) in_row CARDS (start x) start_late in
       let c = round_circle (slot_board m) late next goes_back e N w.0 (omega (arith, w.1)) w.2 d in
       (c.0, every_more late (used m) (λ s t. (and_parts (used m s) (not (gone s)) t).0) _ c.1)
 
-  pub same_ids : (s : ℕ) → cell x ids s ≡ cell m ids s
-  same_ids s = x_beside.others ids s refl ∙ y_beside.others ids s refl
+  pub same_ids : (s : ℕ) → cell x IDS s ≡ cell m IDS s
+  same_ids s = x_beside.others IDS s refl ∙ y_beside.others IDS s refl

@@ -92,9 +92,9 @@ pub mod AnewShown
 pub mod MakesAnew
 pub mod CardsIn
 pub mod Anys
-pub mod ReadyAgain
-pub mod PackedMeans
 pub mod Denseness
 pub mod LinkByLink
+pub mod PackedMeans
+pub mod ReadyAgain
 pub mod SeatsMoved
 pub mod Writing

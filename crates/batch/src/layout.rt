@@ -1,15 +1,15 @@
 // Where the columns of this crate lie in the lent memory, behind those of `keeper`. There is no heap, and what is lent may hold anything: so columns of
 // numbers stand here, by place or by slot, and no lists or maps.
+use keeper::MORE_TO;
 use memory::{Column, PAD};
 use order::CARDS;
-use search::HIND;
 
 // How many links may be said at once.
 pub(crate) const BATCH: usize = 256;
 
 // By place: a slot, of the row as it was before several links were tried, or of the row that is made anew.
 pub const SPARE: Column = Column {
-    base: HIND.column.base + HIND.column.size + PAD,
+    base: MORE_TO.base + MORE_TO.size + PAD,
     size: CARDS,
 };
 

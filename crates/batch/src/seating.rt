@@ -33,7 +33,6 @@ impl Span {
     }
 
     // Puts the slots at the places aside.
-    #[tactic(auto, using(crate::proofs::Saving::saved_wrote))]
     pub(crate) fn save(self, memory: &mut Memory)
         ensures is { memory.new ≡ saved (min self.high CARDS - self.low) memory.old self.low }
         ensures wrote { Writes (SPARE ∷ []) memory.old memory.new }

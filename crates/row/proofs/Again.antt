@@ -1,24 +1,22 @@
 -- A row whose slots took other seats is a row again, of the same cards.
-use Rattle.std.proofs.Common.{◌≡◌, ℕ, zero, suc, ◌+◌, ◌-◌, ◌*◌, ◌<◌, ◌≤◌, Bool, true, false, cond, eqb, ltb, leb, List, [], ◌∷◌, map, length, sym, refl, ap, ap₂, ◌∙◌, subst, ⊎_elim, inl, inr, arith}
-use Rattle.std.specs.List.{range_with_len}
-use Rattle.std.proofs.lemmas.Bool.{cases_Bool, cases_lt, cond_both, eqb-true, eqb-false, leb-true, leb-false, ltb-true, ltb-false, both_ways}
-use Rattle.std.proofs.lemmas.Bool.Decides.{nat_tests}
+use Rattle.std.proofs.Common.{◌≡◌, ℕ, zero, suc, ◌+◌, ◌-◌, ◌*◌, ◌<◌, ◌≤◌, Bool, true, false, cond, eqb, ltb, leb, List, [], ◌∷◌, map, sym, refl, ap, ◌∙◌, subst, ⊎_elim, arith}
+use Rattle.std.proofs.lemmas.Bool.{cases_lt, cond_both, eqb-true, leb-true, leb-false, ltb-true, ltb-false}
 use Rattle.order.specs.declared.board.TheConstants.{CARDS}
 use Rattle.order.specs.Lists.{place}
 use Rattle.memory.specs.Columns.{cell}
 use Rattle.memory.specs.Footprints.{Writes}
-use Rattle.row.specs.declared.layout.TheConstants.{SEATS_MOST, SPARE, COUNT, ENDING, FRESH, FREE, IDS, CHAIN, SLOTS, SEATS, TAKEN}
-use Rattle.row.specs.Meaning.{amount, count, ending, fresh, free, taken, row_of, cards, used, place_at, Freed, IsRow}
+use Rattle.row.specs.declared.layout.TheConstants.{SEATS_MOST, SPARE, COUNT, FRESH, FREE, IDS, CHAIN, SEATS}
+use Rattle.row.specs.Meaning.{amount, count, ending, fresh, free, taken, row_of, cards, used, Freed, IsRow}
 use Rattle.row.specs.Moves.{compacted, roomy, tidied, packed}
-use Rattle.row.specs.Laws.{Packed}
-use Rattle.row.proofs.Listing.{amount_none, amount_more, amount_le}
+use Rattle.row.specs.Laws.{gaps, room_turns, tidy_turns, Packed}
+use Rattle.row.proofs.Listing.{amount_more, amount_le}
 use Rattle.row.proofs.Along.{amount_all}
 use Rattle.row.proofs.Hashing.{chains_same, one_slot_same}
 use Rattle.row.proofs.Freeing.{freed_same}
 use Rattle.row.proofs.Framing.{packing, compacted_writes}
 use Rattle.row.proofs.Rows.{Seated, seated}
 use Rattle.row.proofs.Packs.{Compacted, compacts, tight_full, tight_dense}
-use Rattle.row.proofs.Present.{standing, used_seat, place_slot, few_cards}
+use Rattle.row.proofs.Named.{standing, used_seat, place_slot}
 
 -- what is left of the columns but for the seats
 pub record Apart (m n : List ℕ) : Type 0 where
@@ -184,6 +182,24 @@ module _ (m : List ℕ) (S : IsRow m) where
       cond_both (leb SEATS_MOST (ending m)) (compacted m) m (λ (x : List ℕ). ending x ≤ 2 * count m + SPARE)
       (λ _. let p = compacted_packed m S in let a = p.tight in let b = p.same_count in omega arith)
       (λ e. h)
+
+  -- and those who went pay for it
+  pub roomy_paid : count m < CARDS → room_turns m + 2 * gaps (roomy m) ≤ 2 * gaps m
+  unfolding roomy room_turns
+  roomy_paid l = go (leb SEATS_MOST (ending m)) refl
+    where
+      go : (b : Bool) → leb SEATS_MOST (ending m) ≡ b → cond b (ending m) 0 + 2 * gaps (cond b (compacted m) m) ≤ 2 * gaps m
+      go true e = let p = compacted_packed m S in let a = p.tight in let c = p.same_count in let f = leb-true SEATS_MOST (ending m) e in omega arith
+      go false e = omega arith
+
+  pub tidied_paid : tidy_turns (count m) (ending m) + 2 * gaps (tidied m) ≤ 2 * gaps m
+  unfolding tidied tidy_turns
+  tidied_paid = go (ltb (count m) (ending m - count m - SPARE)) refl
+    where
+      go : (b : Bool) → ltb (count m) (ending m - count m - SPARE) ≡ b → cond b (ending m) 0 + 2 * gaps (cond b (compacted m) m) ≤ 2 * gaps m
+      go true e =
+          let p = compacted_packed m S in let a = p.tight in let f = ltb-true (count m) (ending m - count m - SPARE) e in omega arith
+      go false e = omega arith
 
   pub same_tidied : Same m (tidied m)
   unfolding tidied

@@ -1,5 +1,5 @@
 -- Zeros are a row, with no cards.
-use Rattle.std.proofs.Common.{◌≡◌, ℕ, zero, suc, ◌+◌, ◌/◌, ◌%◌, ◌<◌, ◌≤◌, true, false, List, [], map, length, get_or, replicate, sym, refl, ap, ◌∙◌, arith}
+use Rattle.std.proofs.Common.{◌≡◌, ℕ, zero, suc, ◌+◌, ◌/◌, ◌%◌, ◌≤◌, true, false, List, [], map, length, get_or, replicate, sym, refl, ap, ◌∙◌, arith}
 use lib.ListN.{length-replicate}
 use Rattle.std.proofs.lemmas.Bool.{both_ways}
 use Rattle.std.proofs.lemmas.Bool.Decides.{nat_tests}
@@ -7,8 +7,8 @@ use Rattle.order.specs.Lists.{any, distinct}
 use Rattle.memory.specs.declared.column.TheConstants.{MEMORY}
 use Rattle.memory.specs.declared.column.Column.{Column}
 use Rattle.memory.specs.Columns.{cell}
-use Rattle.row.specs.declared.layout.TheConstants.{HEADS, COUNT, ENDING, FRESH, FREE, IDS, CHAIN, SLOTS, SEATS, TAKEN}
-use Rattle.row.specs.Meaning.{bit_set, listed, amount, in_use, count, ending, fresh, free, taken, cards, row_of, used, IsRow}
+use Rattle.row.specs.declared.layout.TheConstants.{COUNT, ENDING, FRESH, FREE, IDS, CHAIN, SLOTS, SEATS, TAKEN}
+use Rattle.row.specs.Meaning.{bit_set, listed, amount, in_use, ending, taken, cards, used, IsRow}
 use Rattle.row.specs.Theory.{Begins}
 use Rattle.row.proofs.Listing.{listed_none, amount_none}
 use Rattle.row.proofs.Words.{digit_zero}

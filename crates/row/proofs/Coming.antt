@@ -1,7 +1,6 @@
 -- A card that comes is last.
-use Rattle.std.proofs.Common.{◌≡◌, ℕ, suc, ◌+◌, ◌-◌, ◌*◌, ◌<◌, ◌≤◌, Bool, true, false, cond, ◌||◌, eqb, ltb, List, [], ◌∷◌, ◌++◌, map, length, Some, None, Ok, sym, refl, ap, ◌∙◌, subst, add-one, inl, inr, arith}
-use Rattle.std.proofs.lemmas.Bool.{cond_both, and_parts, lt-ltb, le-ltb, both_ways, cases_Bool}
-use Rattle.std.proofs.lemmas.Bool.Decides.{nat_tests}
+use Rattle.std.proofs.Common.{◌≡◌, ℕ, ◌+◌, ◌<◌, ◌≤◌, Bool, true, false, cond, ◌||◌, eqb, List, [], ◌∷◌, ◌++◌, map, length, Some, None, Ok, sym, refl, ap, ◌∙◌, subst, add-one, arith}
+use Rattle.std.proofs.lemmas.Bool.{cond_both, and_parts, lt-ltb, le-ltb, both_ways}
 use Rattle.order.specs.declared.board.TheConstants.{CARDS}
 use Rattle.order.specs.declared.board.Refusal.TheVariants.{Exists, Full}
 use Rattle.order.specs.Lists.{every, has}
@@ -9,7 +8,7 @@ use Rattle.order.specs.Outcomes.{Outcome, refused}
 use Rattle.memory.specs.declared.column.Column.{Column}
 use Rattle.memory.specs.Columns.{cell, written, apart}
 use Rattle.memory.proofs.Cells.{length_written, cell_same, cell_other, cell_apart}
-use Rattle.row.specs.declared.layout.TheConstants.{SEATS_MOST, SPARE, HEADS, COUNT, ENDING, FRESH, FREE, IDS, CHAIN, SLOTS, SEATS, TAKEN}
+use Rattle.row.specs.declared.layout.TheConstants.{SEATS_MOST, HEADS, COUNT, ENDING, FRESH, FREE, IDS, CHAIN, SLOTS, SEATS, TAKEN}
 use Rattle.row.specs.Lookup.{bucket, found, entered}
 use Rattle.row.specs.Meaning.{count, ending, fresh, free, taken, row_of, cards, used, Standing, Freed, IsRow}
 use Rattle.row.specs.Moves.{seated_at, roomy, slot_for, slot_taken, joined, arrived, came}
@@ -21,8 +20,9 @@ use Rattle.row.proofs.Seatings.{came_row, came_seating, came_used}
 use Rattle.row.proofs.Hashing.{bucket_below, Enters, entered_chains, entered_one}
 use Rattle.row.proofs.Freeing.{next_slot, next_low, next_free, freed_pop}
 use Rattle.row.proofs.Rows.{seated, row_by, ending_written, nowhere}
-use Rattle.row.proofs.Present.{standing, long_row, length_cards, row_used, card_slot, found_there, found_absent, has_card}
-use Rattle.row.proofs.Again.{same_roomy, roomy_open, roomy_spare}
+use Rattle.row.proofs.Named.{standing, long_row, row_used}
+use Rattle.row.proofs.Present.{length_cards, card_slot, found_there, found_absent, has_card}
+use Rattle.row.proofs.Again.{same_roomy, roomy_open, roomy_spare, roomy_paid}
 
 slot_is_next : (m : List ℕ) → slot_for m ≡ next_slot (fresh m) (free m)
 unfolding slot_for
@@ -326,6 +326,12 @@ came_law m k S new l =
           let a = roomy_spare m S h in
           let b = end_arrived r (count m) k g.is_row g.same_count l fit n in
           let d = count_arrived r (count m) k g.is_row g.same_count l fit n in
+          omega arith;
+      paid =
+          let a = roomy_paid m S l in
+          let b = end_arrived r (count m) k g.is_row g.same_count l fit n in
+          let d = count_arrived r (count m) k g.is_row g.same_count l fit n in
+          let c = g.same_count in
           omega arith;
     }
 

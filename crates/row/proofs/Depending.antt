@@ -1,12 +1,11 @@
 -- What the row means depends on the columns of this crate alone.
-use Rattle.std.proofs.Common.{◌≡◌, ℕ, ◌/◌, ◌%◌, true, Bool, List, map, min, ap}
-use Rattle.memory.specs.declared.column.Column.{Column}
-use Rattle.memory.specs.Footprints.{View, view, clear_all, Writes}
+use Rattle.std.proofs.Common.{ℕ, List, map, min, ap}
+use Rattle.memory.specs.Footprints.{View}
 use Rattle.memory.proofs.Footprints.{view_same, kept}
-use Rattle.row.specs.declared.layout.TheConstants.{SEATS_MOST, ENDING, IDS, SLOTS, SEATS, TAKEN}
+use Rattle.row.specs.declared.layout.TheConstants.{SEATS_MOST, COUNT, ENDING, IDS, SLOTS, SEATS, TAKEN}
 use Rattle.row.specs.Columns.{columns}
-use Rattle.row.specs.Meaning.{bit_set, listed, amount, in_use, row_of, cards, used, place_at, RowIn, IsRow}
-use Rattle.row.specs.Theory.{SameRow, Depends}
+use Rattle.row.specs.Meaning.{bit_set, listed, amount, in_use, RowIn}
+use Rattle.row.specs.Theory.{Depends}
 
 abbrev row_in : View → List ℕ
 row_in v = listed (v.at SLOTS) (bit_set (v.at TAKEN)) (min (v.at ENDING 0) SEATS_MOST)
@@ -20,4 +19,9 @@ depends fs m n c w =
       same_row = ap row_in e;
       same_used = λ s. ap (λ (v : View). in_use (v.at SLOTS) (v.at SEATS) (bit_set (v.at TAKEN)) s) e;
       same_places = λ s. ap (λ (v : View). amount (bit_set (v.at TAKEN)) (v.at SEATS s)) e;
+      same_taken = λ p. ap (λ (v : View). bit_set (v.at TAKEN) p) e;
+      same_count = ap (λ (v : View). v.at COUNT 0) e;
+      same_ids = λ s. ap (λ (v : View). v.at IDS s) e;
+      same_slots = λ p. ap (λ (v : View). v.at SLOTS p) e;
+      same_seats = λ s. ap (λ (v : View). v.at SEATS s) e;
     }

@@ -1,8 +1,7 @@
 -- The columns of this crate are all that its operations write. Over the models: m is the memory before.
-use Rattle.std.proofs.Common.{◌≡◌, ℕ, zero, suc, ◌+◌, ◌-◌, ◌/◌, ◌%◌, ◌^◌, ◌<◌, ◌≤◌, min, Bool, true, false, cond, eqb, ltb, leb, List, [], ◌∷◌, Some, None, Ok, Option, sym, refl, ap, ◌∙◌, subst, inl, inr, arith}
-use lib.Bits.{bit_and, bit_or}
+use Rattle.std.proofs.Common.{◌≡◌, ℕ, zero, suc, ◌+◌, ◌-◌, ◌/◌, ◌%◌, ◌^◌, ◌<◌, ◌≤◌, Bool, true, false, cond, eqb, ltb, leb, List, [], ◌∷◌, Some, None, Ok, Option, refl, ◌∙◌, subst, arith}
 use Rattle.std.proofs.lemmas.Nat.{and_le_l, or_lt, pow_below}
-use Rattle.std.proofs.lemmas.Bool.{cases_Bool, ltb-true}
+use Rattle.std.proofs.lemmas.Bool.{ltb-true}
 use Rattle.order.specs.declared.board.TheConstants.{CARDS}
 use Rattle.order.specs.declared.board.Refusal.TheVariants.{Full}
 use Rattle.order.specs.Outcomes.{refused}
@@ -15,7 +14,7 @@ use Rattle.row.specs.declared.layout.TheConstants.{SEATS_MOST, HEADS, COUNT, END
 use Rattle.row.specs.declared.lookup.Entry.{Entry}
 use Rattle.row.specs.Columns.{columns}
 use Rattle.row.specs.Lookup.{EntryBelow, bucket, found, sought, entered, withdrawn}
-use Rattle.row.specs.Meaning.{count, ending, fresh, free, taken}
+use Rattle.row.specs.Meaning.{count, ending, free, taken}
 use Rattle.row.specs.Moves.{marked, unmarked, put_at, seated_at, moved, drawn, packed_from, compacted, roomy, tidied, packed, slot_for, slot_taken, slot_freed, joined, arrived, came, left, gone}
 use Rattle.row.proofs.Turning.{slot_unmarked}
 use Rattle.row.proofs.Seeking.{sought_low}

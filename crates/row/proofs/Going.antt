@@ -1,5 +1,5 @@
 -- A card that goes leaves the others in their order.
-use Rattle.std.proofs.Common.{◌≡◌, ℕ, suc, ◌+◌, ◌-◌, ◌*◌, ◌<◌, ◌≤◌, Bool, true, false, not, ◌&&◌, eqb, List, [], ◌∷◌, map, length, Some, None, Ok, sym, refl, ap, ◌∙◌, subst, add-one, inl, inr, arith}
+use Rattle.std.proofs.Common.{◌≡◌, ℕ, suc, ◌+◌, ◌-◌, ◌<◌, ◌≤◌, Bool, true, false, not, ◌&&◌, eqb, List, [], ◌∷◌, map, length, Some, None, Ok, sym, refl, ap, ◌∙◌, subst, add-one, inl, inr, arith}
 use Rattle.std.proofs.lemmas.Bool.{cases_eq, eq-eqb, ne_eqb}
 use Rattle.order.specs.declared.board.TheConstants.{CARDS}
 use Rattle.order.specs.declared.board.Refusal.TheVariants.{Missing}
@@ -11,11 +11,11 @@ use Rattle.memory.specs.declared.column.Column.{Column}
 use Rattle.memory.specs.Columns.{cell, written, apart}
 use Rattle.memory.proofs.Cells.{length_written, cell_same, cell_other, cell_apart}
 use Rattle.row.specs.declared.lookup.Entry.{Entry}
-use Rattle.row.specs.declared.layout.TheConstants.{SEATS_MOST, SPARE, HEADS, COUNT, ENDING, FRESH, FREE, IDS, CHAIN, SLOTS, SEATS, TAKEN}
+use Rattle.row.specs.declared.layout.TheConstants.{HEADS, COUNT, ENDING, FRESH, FREE, IDS, CHAIN, SLOTS, SEATS, TAKEN}
 use Rattle.row.specs.Lookup.{bucket, entry, sought, withdrawn}
-use Rattle.row.specs.Meaning.{in_use, count, ending, fresh, free, taken, row_of, cards, used, Standing, Freed, IsRow}
+use Rattle.row.specs.Meaning.{in_use, count, ending, fresh, free, taken, row_of, cards, used, Standing, IsRow}
 use Rattle.row.specs.Moves.{unmarked, slot_freed, left, tidied, gone}
-use Rattle.row.specs.Laws.{Gone}
+use Rattle.row.specs.Laws.{tidy_turns, Gone}
 use Rattle.row.proofs.Turning.{length_unmarked, beside_unmarked, taken_same, taken_unmarked}
 use Rattle.row.proofs.Seatings.{left_row, left_seating, left_some, left_used}
 use Rattle.row.proofs.Chaining.{holder}
@@ -23,8 +23,9 @@ use Rattle.row.proofs.Hashing.{bucket_below, withdrawn_chains, withdrawn_one}
 use Rattle.row.proofs.Freeing.{freed_push}
 use Rattle.row.proofs.Along.{listed_same}
 use Rattle.row.proofs.Rows.{seated, room, row_by}
-use Rattle.row.proofs.Present.{standing, long_row, row_used, used_below, used_seat, chain_below, one_slot, card_slot, sought_there, sought_absent}
-use Rattle.row.proofs.Again.{map_same, same_tidied, tidied_spare}
+use Rattle.row.proofs.Named.{standing, long_row, row_used, used_below, used_seat, one_slot}
+use Rattle.row.proofs.Present.{chain_below, card_slot, sought_there, sought_absent}
+use Rattle.row.proofs.Again.{map_same, same_tidied, tidied_spare, tidied_paid}
 
 -- slots in use, over another column that holds the same
 in_use_same : (r r' s : ℕ → ℕ) (f : ℕ → Bool) → ((q : ℕ) → r' q ≡ r q) → (t : ℕ) → in_use r' s f t ≡ in_use r s f t
@@ -218,6 +219,12 @@ module _ (m : List ℕ) (S : IsRow m) (s : ℕ) (u : used m s ≡ true) where
         same_cards = λ x. t.same_ids x ∙ ids_left x;
         was_used = u;
         spare = tidied_spare m' left_is_row;
+        paid =
+            let a = tidied_paid m' left_is_row in
+            let c = ap (λ (x : ℕ). tidy_turns x (ending m')) count_left in
+            let e = ap (tidy_turns (count m - 1)) end_left in
+            let b = count_left in let d = end_left in
+            omega arith;
       }
 
 -- a card goes

@@ -15,12 +15,13 @@ pub mod Framing
 pub mod Sitting
 pub mod Rows
 pub mod Packs
+pub mod Named
 pub mod Present
 pub mod Again
 pub mod Coming
 pub mod Going
-pub mod Named
 pub mod Beginning
 pub mod Depending
 pub mod Puttings
 pub mod Tellings
+pub mod Contracts

@@ -4,7 +4,7 @@ use Rattle.std.specs.List.{range_with_len}
 use Rattle.std.proofs.lemmas.Bool.{cases_eq, cases_lt, cases_Bool, eq-eqb, ne_eqb, both_ways, lt-ltb, le-ltb, cond-true, cond-false}
 use Rattle.memory.specs.Columns.{cell, written}
 use Rattle.memory.proofs.Cells.{length_written, cell_apart}
-use Rattle.row.specs.declared.layout.TheConstants.{SEATS_MOST, COUNT, ENDING, SLOTS, SEATS, TAKEN}
+use Rattle.row.specs.declared.layout.TheConstants.{COUNT, ENDING, SLOTS, SEATS, TAKEN}
 use Rattle.row.specs.Meaning.{amount, in_use, count, ending, taken, row_of, used, Seating}
 use Rattle.row.specs.Moves.{moved, drawn, packed_from, compacted}
 use Rattle.row.proofs.Turning.{taken_same}

@@ -1,17 +1,17 @@
 -- The cards in the row: they stand in slots in use, a card is found if and only if it's there, and at its place.
-use Rattle.std.proofs.Common.{◌≡◌, ℕ, zero, suc, ◌+◌, ◌<◌, ◌≤◌, Bool, true, false, cond, eqb, List, [], ◌∷◌, ◌++◌, map, length, get_or, Some, None, sym, refl, ap, ◌∙◌, subst, inl, inr, arith}
+use Rattle.std.proofs.Common.{◌≡◌, ℕ, zero, suc, ◌<◌, ◌≤◌, Bool, true, false, cond, eqb, List, [], ◌∷◌, ◌++◌, map, length, get_or, Some, None, sym, refl, ap, ◌∙◌, inl, inr, arith}
 use lib.ListN.{length-map}
 use Rattle.std.proofs.lemmas.Bool.{cases_Bool, cond_both, eq-eqb, eqb-true, and_parts, and_from, or_left, or_right, both_ways}
 use Rattle.std.proofs.lemmas.List.{append-nil}
 use Rattle.order.specs.declared.board.TheConstants.{CARDS}
-use Rattle.order.specs.Lists.{every, any, has, place, distinct}
-use Rattle.order.proofs.Filters.{every_append, distinct_push}
+use Rattle.order.specs.Lists.{any, has, place, distinct}
+use Rattle.order.proofs.Filters.{distinct_push}
 use Rattle.order.proofs.Members.{few_below}
 use Rattle.order.proofs.RenamesLists.{has_map, place_map, distinct_map}
 use Rattle.memory.specs.Columns.{cell}
-use Rattle.row.specs.declared.layout.TheConstants.{SEATS_MOST, HEADS, COUNT, ENDING, FRESH, FREE, IDS, CHAIN, SLOTS, SEATS, TAKEN}
+use Rattle.row.specs.declared.layout.TheConstants.{HEADS, IDS, SLOTS, SEATS}
 use Rattle.row.specs.Lookup.{bucket, entry, sought, found}
-use Rattle.row.specs.Meaning.{listed, amount, count, ending, fresh, free, taken, rank, row_of, cards, used, place_at, Standing, IsRow}
+use Rattle.row.specs.Meaning.{listed, count, ending, taken, row_of, cards, used, place_at, IsRow}
 use Rattle.row.specs.Moves.{place_found}
 use Rattle.row.proofs.Chaining.{holder}
 use Rattle.row.proofs.Seeking.{sought_none, sought_some}
@@ -19,17 +19,8 @@ use Rattle.row.proofs.Hashing.{bucket_below}
 use Rattle.row.proofs.Listing.{listed_none, listed_more}
 use Rattle.row.proofs.Along.{has_not}
 use Rattle.row.proofs.Seatings.{one_seat}
-use Rattle.row.proofs.Rows.{seated, length_row, sitting, at_seat, has_is, place_is, rank_below, slot_is}
-
--- every number that is listed passes a test
-every_listed : (D : ℕ → Bool) (r : ℕ → ℕ) (f : ℕ → Bool) (n : ℕ) → ((p : ℕ) → f p ≡ true → D (r p) ≡ true) → every D (listed r f n) ≡ true
-unfolding every
-every_listed D r f zero h = ap (every D) (listed_none r f)
-every_listed D r f (suc n) h = ap (every D) (listed_more r f n) ∙ every_append D (listed r f n) (cond (f n) (r n ∷ []) []) ∙ and_from _ _ (every_listed D r f n h) (last (f n) refl)
-  where
-    last : (b : Bool) → f n ≡ b → every D (cond b (r n ∷ []) []) ≡ true
-    last true e = let t = h n e in and_from _ _ t refl
-    last false e = refl
+use Rattle.row.proofs.Rows.{seated, at_seat}
+use Rattle.row.proofs.Named.{standing, one_slot, used_below, used_seat, row_used, has_used, has_slot, place_slot, length_slots, ranks}
 
 -- what another name is of, in a list
 named_in : (f : ℕ → ℕ) (xs : List ℕ) (k : ℕ) → has (map f xs) k ≡ true → (s : ℕ) × (has xs s ≡ true) × (f s ≡ k)
@@ -41,87 +32,56 @@ named_in f (x ∷ xs) k h = elim (cases_Bool (eqb k (f x))) [
 ]
 
 module _ (m : List ℕ) (S : IsRow m) where
-  pub standing : Standing (count m) (ending m) (fresh m) (free m) (cell m IDS) (cell m CHAIN) (cell m SLOTS) (cell m SEATS) (taken m)
-  standing = S.stands
-
-  pub long_row : TAKEN.base + TAKEN.size ≤ length m
-  long_row = S.long
-
-  pub one_slot : (s t : ℕ) → used m s ≡ true → used m t ≡ true → cell m IDS s ≡ cell m IDS t → s ≡ t
-  one_slot = standing.one_slot
-
-  -- the slots in use
-  pub used_below : (t : ℕ) → used m t ≡ true → t < CARDS
-  used_below t u = (sitting m (seated m S) t u).0
-
-  pub used_seat : (t : ℕ) → used m t ≡ true → (taken m (cell m SEATS t) ≡ true) × (cell m SLOTS (cell m SEATS t) ≡ t)
-  used_seat t u = let w = sitting m (seated m S) t u in (w.1, w.2)
-
   pub slot_used : (p : ℕ) → taken m p ≡ true → (used m (cell m SLOTS p) ≡ true) × (cell m SEATS (cell m SLOTS p) ≡ p)
-  slot_used p h = (at_seat m (seated m S) p h, standing.seated.seat_of p h)
-
-  pub row_used : every (used m) (row_of m) ≡ true
-  row_used = every_listed (used m) (cell m SLOTS) (taken m) (ending m) (at_seat m (seated m S))
-
-  pub has_used : (s : ℕ) → has (row_of m) s ≡ used m s
-  has_used = has_is m (seated m S)
-
-  pub has_slot : (s : ℕ) → used m s ≡ true → has (row_of m) s ≡ true
-  has_slot s u = has_used s ∙ u
-
-  pub place_slot : (s : ℕ) → used m s ≡ true → place (row_of m) s ≡ place_at m s
-  place_slot = place_is m (seated m S)
-
-  pub length_slots : length (row_of m) ≡ count m
-  length_slots = length_row m (seated m S)
+  slot_used p h = (at_seat m (seated m S) p h, (standing m S).seated.seat_of p h)
 
   pub used_place : (t : ℕ) → used m t ≡ true → (place_at m t < count m) × (get_or (row_of m) (place_at m t) 0 ≡ t)
   used_place t u =
-      let w = used_seat t u in
-      let r = rank_below m (seated m S) (cell m SEATS t) w.0 in
-      let l = length_slots in
-      (omega arith, slot_is m (seated m S) (cell m SEATS t) w.0 ∙ w.1)
+      let w = used_seat m S t u in
+      let r = ranks m S (cell m SEATS t) w.0 in
+      let l = length_slots m S in
+      (let a = r.0 in omega arith, r.1 ∙ w.1)
 
   -- their cards
   pub length_cards : length (cards m) ≡ count m
-  length_cards = length-map (row_of m) (cell m IDS) ∙ length_slots
+  length_cards = length-map (row_of m) (cell m IDS) ∙ length_slots m S
 
   pub few_cards : count m ≤ CARDS
-  few_cards = let a = standing.freed.all in let b = standing.freed.few in omega arith
+  few_cards = let a = (standing m S).freed.all in let b = (standing m S).freed.few in omega arith
 
   pub has_card : (t : ℕ) → used m t ≡ true → has (cards m) (cell m IDS t) ≡ true
-  has_card t u = has_map (cell m IDS) (used m) one_slot (row_of m) t row_used u ∙ has_slot t u
+  has_card t u = has_map (cell m IDS) (used m) (one_slot m S) (row_of m) t (row_used m S) u ∙ has_slot m S t u
 
   pub place_card : (t : ℕ) → used m t ≡ true → place (cards m) (cell m IDS t) ≡ place_at m t
-  place_card t u = place_map (cell m IDS) (used m) one_slot (row_of m) t row_used u ∙ place_slot t u
+  place_card t u = place_map (cell m IDS) (used m) (one_slot m S) (row_of m) t (row_used m S) u ∙ place_slot m S t u
 
   -- the slot of a card that's there
   pub card_slot : (k : ℕ) → has (cards m) k ≡ true → (s : ℕ) × (used m s ≡ true) × (cell m IDS s ≡ k)
-  card_slot k h = let w = named_in (cell m IDS) (row_of m) k h in (w.0, sym (has_used w.0) ∙ w.1, w.2)
+  card_slot k h = let w = named_in (cell m IDS) (row_of m) k h in (w.0, sym (has_used m S w.0) ∙ w.1, w.2)
 
   -- looking for a card
-  pub chain_below : (b t : ℕ) → b < HEADS → has (standing.chains.of b) t ≡ true → t < CARDS
-  chain_below b t l h = used_below t (and_parts _ _ (sym (standing.chains.holds b t l) ∙ h)).0
+  pub chain_below : (b t : ℕ) → b < HEADS → has ((standing m S).chains.of b) t ≡ true → t < CARDS
+  chain_below b t l h = used_below m S t (and_parts _ _ (sym ((standing m S).chains.holds b t l) ∙ h)).0
 
   pub sought_there : (s : ℕ) → used m s ≡ true →
       sought CARDS m (bucket (cell m IDS s)) (cell m IDS s)
-      ≡ Some (entry (holder (bucket (cell m IDS s)) (standing.chains.of (bucket (cell m IDS s))) s) s)
+      ≡ Some (entry (holder (bucket (cell m IDS s)) ((standing m S).chains.of (bucket (cell m IDS s))) s) s)
   sought_there s u =
       let k = cell m IDS s in
       let b = bucket k in
       let l = bucket_below k in
-      let C = standing.chains in
+      let C = (standing m S).chains in
       let xs = C.of b in
       sought_some m k CARDS xs b s (C.spells b l) (λ t h. chain_below b t l h)
       (few_below CARDS xs (C.once b l) (λ t h. chain_below b t l h))
       (C.holds b s l ∙ and_from _ _ u (eq-eqb b b refl)) refl
-      (λ t h e. one_slot t s (and_parts _ _ (sym (C.holds b t l) ∙ h)).0 u e)
+      (λ t h e. one_slot m S t s (and_parts _ _ (sym (C.holds b t l) ∙ h)).0 u e)
 
   pub sought_absent : (k : ℕ) → has (cards m) k ≡ false → sought CARDS m (bucket k) k ≡ None
   sought_absent k n =
       let b = bucket k in
       let l = bucket_below k in
-      let C = standing.chains in
+      let C = (standing m S).chains in
       sought_none m k CARDS (C.of b) b (C.spells b l) (λ t h. chain_below b t l h)
       (λ t h e. both_ways (has (cards m) k) n (ap (has (cards m)) (sym e) ∙ has_card t (and_parts _ _ (sym (C.holds b t l) ∙ h)).0))
 

@@ -1,18 +1,16 @@
 -- A slot that is put at a taken seat; slots that are put at each other's seats.
-use Rattle.std.proofs.Common.{◌≡◌, ℕ, ◌<◌, ◌≤◌, Bool, true, false, List, length, set, sym, refl, ap, ◌∙◌, inl, inr, arith}
+use Rattle.std.proofs.Common.{◌≡◌, ℕ, ◌<◌, true, false, List, length, set, sym, refl, ap, ◌∙◌, inl, inr, arith}
 use Rattle.std.proofs.lemmas.Bool.{cases_Bool, and_from, lt-ltb, eq-eqb, both_ways}
 use Rattle.order.specs.declared.board.TheConstants.{CARDS}
 use Rattle.memory.specs.Columns.{cell, written}
-use Rattle.memory.specs.Footprints.{Writes}
 use Rattle.memory.proofs.Cells.{cell_same, cell_other, cell_apart}
 use Rattle.row.specs.declared.layout.TheConstants.{COUNT, ENDING, FRESH, FREE, IDS, CHAIN, SLOTS, SEATS, TAKEN}
-use Rattle.row.specs.Meaning.{amount, in_use, count, ending, taken, rank, row_of, used, IsRow}
+use Rattle.row.specs.Meaning.{in_use, count, ending, taken, rank, row_of, used, IsRow}
 use Rattle.row.specs.Moves.{put_at}
 use Rattle.row.proofs.Turning.{taken_same}
-use Rattle.row.proofs.Listing.{length_listed}
 use Rattle.row.proofs.Along.{listed_same, listed_set, amount_same}
 use Rattle.row.proofs.Rows.{Seated, seated_by, row_by, sitting}
-use Rattle.row.proofs.Present.{standing, long_row, used_below, used_seat}
+use Rattle.row.proofs.Named.{standing, long_row, used_below}
 use Rattle.row.proofs.Again.{row_again}
 
 pub putting : (m : List ℕ) (p s : ℕ) → IsRow m → taken m p ≡ true → s < CARDS →

@@ -1,11 +1,11 @@
 -- The row in the memory: who is in it, and where; a slot moves to a free seat.
-use Rattle.std.proofs.Common.{◌≡◌, ℕ, ◌+◌, ◌-◌, ◌<◌, ◌≤◌, Bool, true, false, not, ◌&&◌, ◌||◌, eqb, ltb, List, length, get_or, sym, refl, ap, ◌∙◌, subst, ⊎_elim, arith}
+use Rattle.std.proofs.Common.{◌≡◌, ℕ, ◌+◌, ◌<◌, ◌≤◌, Bool, true, false, not, ◌&&◌, ◌||◌, eqb, ltb, List, length, get_or, sym, refl, ap, ◌∙◌, subst, ⊎_elim, arith}
 use Rattle.std.proofs.lemmas.Bool.{cases_eq, cases_lt, cases_Bool, eq-eqb, both_ways, and_parts, eqb-true, ltb-true, lt-ltb, le-ltb, and_from}
 use Rattle.order.specs.declared.board.TheConstants.{CARDS}
 use Rattle.order.specs.Lists.{has, place}
 use Rattle.memory.specs.declared.column.Column.{Column}
 use Rattle.memory.specs.Columns.{cell, written, apart}
-use Rattle.memory.proofs.Cells.{length_written, cell_same, cell_apart}
+use Rattle.memory.proofs.Cells.{cell_same}
 use Rattle.row.specs.declared.layout.TheConstants.{SEATS_MOST, COUNT, ENDING, SLOTS, SEATS, TAKEN}
 use Rattle.row.specs.Meaning.{listed, in_use, count, ending, taken, rank, row_of, used, Seating, IsRow}
 use Rattle.row.specs.Moves.{unmarked, seated_at, moved}

@@ -1,13 +1,12 @@
 -- A card's entry is sought, in a memory whose pointers spell a chain, and in any.
-use Rattle.std.proofs.Common.{◌≡◌, ℕ, zero, suc, ◌+◌, ◌-◌, ◌<◌, ◌≤◌, true, false, cond, ◌||◌, eqb, ltb, List, [], ◌∷◌, length, Some, None, Option, sym, refl, ap, ◌∙◌, inl, inr, arith}
+use Rattle.std.proofs.Common.{◌≡◌, ℕ, zero, suc, ◌+◌, ◌-◌, ◌<◌, ◌≤◌, true, false, cond, ◌||◌, eqb, ltb, List, [], ◌∷◌, length, Some, None, refl, ap, ◌∙◌, inl, inr, arith}
 use Rattle.std.proofs.lemmas.Bool.Decides.{nat_tests}
-use Rattle.std.proofs.lemmas.Bool.{cases_Bool, cases_eq, eq-eqb, ne_eqb, eqb-false, ltb-false, or_parts, cond_both, both_ways}
+use Rattle.std.proofs.lemmas.Bool.{cases_eq, eq-eqb, ne_eqb, eqb-false, ltb-false, or_parts, cond_both, both_ways}
 use Rattle.order.specs.Lists.{any, has}
 use Rattle.memory.specs.Columns.{cell}
 use Rattle.order.specs.declared.board.TheConstants.{CARDS}
-use Rattle.row.specs.declared.lookup.Entry.{Entry}
 use Rattle.row.specs.declared.layout.TheConstants.{HEADS, IDS, CHAIN}
-use Rattle.memory.specs.Options.{given, Within}
+use Rattle.memory.specs.Options.{Within}
 use Rattle.memory.proofs.Options.{given_holds}
 use Rattle.row.specs.Lookup.{EntryBelow, followed, entry, sought}
 use Rattle.row.specs.Meaning.{Spells}

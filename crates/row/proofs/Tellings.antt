@@ -1,22 +1,22 @@
 -- Seats that are looked for, and cards that are told, one after the other.
-use Rattle.std.proofs.Common.{◌≡◌, ℕ, zero, suc, ◌+◌, ◌-◌, ◌<◌, ◌≤◌, min, Bool, true, false, cond, List, [], ◌∷◌, ◌++◌, map, length, get_or, take, drop, set, sym, refl, ap, ◌∙◌, ⊎_elim, add-one, length-drop, arith}
-use lib.ListN.{length-map}
+use Rattle.std.proofs.Common.{◌≡◌, ℕ, zero, suc, ◌+◌, ◌<◌, ◌≤◌, min, Bool, true, false, cond, List, [], ◌∷◌, ◌++◌, map, length, get_or, take, drop, set, sym, refl, ap, ◌∙◌, ⊎_elim, add-one, length-drop, arith}
 use Rattle.std.proofs.lemmas.List.{length-take-le, get_or-take, get_or-drop}
-use Rattle.std.proofs.lemmas.Bool.{both_ways, cases_lt, cases_Bool, cond-true, and_from, le-leb}
+use Rattle.std.proofs.lemmas.Bool.{cases_lt, cases_Bool, cond-true, and_from, le-leb}
 use Rattle.order.specs.declared.board.TheConstants.{CARDS}
 use Rattle.order.proofs.Fronts.{front_more, front_all}
 use Rattle.memory.specs.Columns.{cell}
 use Rattle.row.specs.declared.layout.TheConstants.{SEATS_MOST, IDS, SLOTS}
-use Rattle.row.specs.Meaning.{amount, count, ending, taken, rank, row_of, cards, IsRow}
+use Rattle.row.specs.Meaning.{count, ending, taken, rank, row_of, cards, IsRow}
 use Rattle.row.specs.Telling.{next_seat, selected, tellable, tells, told, told_count}
 use Rattle.row.specs.Laws.{Next}
 use Rattle.row.proofs.Listing.{amount_more}
-use Rattle.row.proofs.Along.{amount_gap, amount_up, amount_at}
+use Rattle.row.proofs.Along.{amount_gap, amount_at}
 use Rattle.row.proofs.Counting.{none_past}
 use Rattle.row.proofs.Firsts.{next_holds}
 use Rattle.row.proofs.Halving.{selected_is, selected_none}
-use Rattle.row.proofs.Rows.{seated, room, slot_is, rank_below}
-use Rattle.row.proofs.Present.{standing, length_slots, length_cards, few_cards}
+use Rattle.row.proofs.Rows.{seated, slot_is}
+use Rattle.row.proofs.Named.{standing, length_slots}
+use Rattle.row.proofs.Present.{length_cards, few_cards}
 
 -- all that is taken stands below the last seat
 rank_beyond : (m : List ℕ) (p : ℕ) → SEATS_MOST ≤ p → rank m p ≡ rank m SEATS_MOST

@@ -1,6 +1,10 @@
 -- What is so of the row in its memory, in the words of the board: m is the memory before, m' after, r what was answered.
 --
+--   gaps m             how many seats are free among those in use
+--   room_turns m       how many seats are gone through to make room for a card, if there is no seat behind all: all in use, or none
+--   tidy_turns n e     and to tidy the row, when n cards are left on e seats
 --   Came m k s m'      a card came, into a slot: it is last, and the others stay; if few seats were free among those in use, few are
+--                      (`paid` in it and in Gone: each gap pays for two seats that are gone through, so that in all they are no more than twice those who went)
 --   Comes m k r m'     a card that comes is last; it's refused if it's there, or if there is no room
 --   Gone m k s m'      a card went, out of a slot: the others stay in their order, and few seats are free among those in use
 --   Goes m k r m'      a card that goes leaves the others in their order; it's refused if it isn't there
@@ -17,7 +21,7 @@
 --   Selects m n r      the slot that stands behind so many sits at this seat
 --   Next f p q         q is the first number from p on that passes the test f; the number of seats, if there is none
 --   Tells m p n o r x  what is told is the row's middle
-use Rattle.std.specs.Prelude.{◌≡◌, ℕ, ◌+◌, ◌*◌, ◌<◌, ◌≤◌, Bool, true, false, cond, not, List, [], ◌∷◌, ◌++◌, map, length, take, drop, Some, None, Ok, Err, Option, Result, ◌==◌, nat_lt, slice_index, slice_set}
+use Rattle.std.specs.Prelude.{◌≡◌, ℕ, ◌+◌, ◌-◌, ◌*◌, ◌<◌, ◌≤◌, Bool, true, false, cond, not, List, [], ◌∷◌, ◌++◌, map, length, take, drop, Some, None, Ok, Err, Option, Result, ◌==◌, nat_lt, nat_le, slice_index, slice_set}
 use Rattle.std.specs.List.{range_with_len}
 use Rattle.order.specs.declared.board.TheConstants.{CARDS}
 use Rattle.order.specs.declared.board.Refusal.{Refusal}
@@ -27,6 +31,15 @@ use Rattle.memory.specs.Columns.{cell}
 use Rattle.row.specs.declared.layout.TheConstants.{SEATS_MOST, SPARE, IDS, SLOTS, SEATS}
 use Rattle.row.specs.Meaning.{count, ending, taken, rank, row_of, cards, used, IsRow}
 
+abbrev pub gaps : List ℕ → ℕ
+gaps m = ending m - count m
+
+unfoldable pub room_turns : List ℕ → ℕ
+room_turns m = cond (nat_le SEATS_MOST (ending m)) (ending m) 0
+
+unfoldable pub tidy_turns : ℕ → ℕ → ℕ
+tidy_turns n e = cond (nat_lt n (e - n - SPARE)) e 0
+
 pub record Came (m : List ℕ) (k s : ℕ) (m' : List ℕ) : Type 0 where
   pub is_row : IsRow m'
   pub cards_are : cards m' ≡ cards m ++ k ∷ []
@@ -35,6 +48,7 @@ pub record Came (m : List ℕ) (k s : ℕ) (m' : List ℕ) : Type 0 where
   pub same_cards : (t : ℕ) → used m t ≡ true → cell m' IDS t ≡ cell m IDS t
   pub was_free : used m s ≡ false
   pub spare : ending m ≤ 2 * count m + SPARE → ending m' ≤ 2 * count m' + SPARE
+  pub paid : room_turns m + 2 * gaps m' ≤ 2 * gaps m
 
 unfoldable pub Comes : List ℕ → ℕ → Result ℕ Refusal → List ℕ → Type 0
 Comes m k r m' =
@@ -51,6 +65,7 @@ pub record Gone (m : List ℕ) (k s : ℕ) (m' : List ℕ) : Type 0 where
   pub same_cards : (t : ℕ) → cell m' IDS t ≡ cell m IDS t
   pub was_used : used m s ≡ true
   pub spare : ending m' ≤ 2 * count m' + SPARE
+  pub paid : tidy_turns (count m - 1) (ending m) + 2 * gaps m' ≤ 2 * gaps m + 2
 
 unfoldable pub Goes : List ℕ → ℕ → Result ℕ Refusal → List ℕ → Type 0
 Goes m k r m' =

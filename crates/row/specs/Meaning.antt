@@ -16,7 +16,7 @@
 --   cards m          the cards in the row, from the left
 --   used m s         the slot s is a card's: its seat is taken, and by it
 --   place_at m s     how many cards stand before the card in the slot s
-use Rattle.std.specs.Prelude.{◌≡◌, ℕ, suc, ◌+◌, ◌*◌, ◌/◌, ◌%◌, ◌^◌, ◌<◌, ◌≤◌, min, Bool, true, false, ◌&&◌, List, [], ◌∷◌, map, length, ◌==◌, nat_lt}
+use Rattle.std.specs.Prelude.{◌≡◌, ℕ, suc, ◌+◌, ◌/◌, ◌%◌, ◌^◌, ◌<◌, ◌≤◌, min, Bool, true, false, ◌&&◌, List, [], ◌∷◌, map, length, ◌==◌, nat_lt}
 use Rattle.std.specs.List.{range_with_len}
 use Rattle.order.specs.declared.board.TheConstants.{CARDS}
 use Rattle.order.specs.Lists.{filter, has, distinct}

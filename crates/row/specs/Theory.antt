@@ -16,9 +16,9 @@ use Rattle.order.specs.declared.board.Link.{Link}
 use Rattle.order.specs.Lists.{every, distinct}
 use Rattle.order.specs.Board.{Board}
 use Rattle.order.specs.Renaming.{named, renamed, Naming}
-use Rattle.row.specs.declared.layout.TheConstants.{IDS}
+use Rattle.row.specs.declared.layout.TheConstants.{IDS, SLOTS, SEATS}
 use Rattle.row.specs.Columns.{columns}
-use Rattle.row.specs.Meaning.{row_of, cards, used, place_at, IsRow}
+use Rattle.row.specs.Meaning.{count, taken, row_of, cards, used, place_at, IsRow}
 
 abbrev pub Begins : Type 0
 Begins = IsRow (replicate MEMORY 0) × (cards (replicate MEMORY 0) ≡ [])
@@ -43,6 +43,11 @@ pub record SameRow (m m' : List ℕ) : Type 0 where
   pub same_row : row_of m' ≡ row_of m
   pub same_used : (s : ℕ) → used m' s ≡ used m s
   pub same_places : (s : ℕ) → place_at m' s ≡ place_at m s
+  pub same_taken : (p : ℕ) → taken m' p ≡ taken m p
+  pub same_count : count m' ≡ count m
+  pub same_ids : (s : ℕ) → cell m' IDS s ≡ cell m IDS s
+  pub same_slots : (p : ℕ) → cell m' SLOTS p ≡ cell m SLOTS p
+  pub same_seats : (s : ℕ) → cell m' SEATS s ≡ cell m SEATS s
 
 abbrev pub Depends : Type 0
 Depends = (fs : List Column) (m m' : List ℕ) → clear_all fs columns ≡ true → Writes fs m m' → SameRow m m'

@@ -5,6 +5,7 @@ ghost use Rattle.row.specs.Columns.{columns};
 ghost use Rattle.row.specs.declared.layout.TheConstants.{FREE, SEATS, TAKEN};
 ghost use Rattle.row.specs.Meaning.{count, place_at};
 ghost use Rattle.row.specs.Moves.{came, arrived, left, gone, place_found, slot_for};
+ghost use Rattle.row.specs.Laws.{Counts, Places, FindsPlace, Comes, Goes};
 
 use crate::layout::COUNT;
 use crate::lookup::{enter, find, seek, withdraw};
@@ -16,24 +17,29 @@ use memory::Memory;
 use order::{CARDS, Refusal};
 
 // How many cards there are.
+#[tactic(auto, using(crate::proofs::Contracts::counts_so))]
 #[inline(always)]
 pub fn len(memory: &Memory) -> u64
-    ensures { result ≡ count memory.now }
+    ensures is { result ≡ count memory.now }
+    ensures law { Counts memory.now result }
 {
     COUNT.get(memory, 0)
 }
 
 // How many cards stand before the card in a slot.
+#[tactic(auto, using(crate::proofs::Contracts::places_so))]
 pub fn place_at(memory: &Memory, slot: u64) -> u64
-    ensures { result ≡ place_at memory.now slot }
+    ensures is { result ≡ place_at memory.now slot }
+    ensures law { Places memory.now slot result }
 {
     rank(memory, seat_of(memory, slot))
 }
 
 // How many cards stand before this one, if it's there.
-#[tactic(auto, unfolding(crate::specs::Moves::place_found))]
+#[tactic(auto, using(crate::proofs::Contracts::finds_place_so), unfolding(crate::specs::Moves::place_found))]
 pub fn place_of(memory: &Memory, card: u64) -> Option<u64>
-    ensures { result ≡ place_found memory.now card }
+    ensures is { result ≡ place_found memory.now card }
+    ensures law { FindsPlace memory.now card result }
 {
     find(memory, card).map(|slot| place_at(memory, slot))
 }
@@ -55,11 +61,12 @@ fn arrive(memory: &mut Memory, count: u64, card: u64) -> u64
 }
 
 // A card comes, at the end of the row; says its slot.
-#[tactic(auto, using(memory::proofs::Footprints::footprints), unfolding(crate::specs::Moves::came))]
+#[tactic(auto, using(crate::proofs::Contracts::comes_so, memory::proofs::Footprints::footprints), unfolding(crate::specs::Moves::came))]
 pub fn comes(memory: &mut Memory, card: u64) -> Result<u64, Refusal>
     ensures is { result ≡ (came memory.old card).answer }
     ensures after { memory.new ≡ (came memory.old card).memory }
     ensures wrote { Writes columns memory.old memory.new }
+    ensures law { Comes memory.old card result memory.new }
 {
     let None = find(memory, card) else {
         return Err(Refusal::Exists);
@@ -87,11 +94,12 @@ fn leave(memory: &mut Memory, slot: u64)
 }
 
 // A card goes; the others stay in their order. Says the slot that it had.
-#[tactic(auto, using(memory::proofs::Footprints::footprints), unfolding(crate::specs::Moves::gone))]
+#[tactic(auto, using(crate::proofs::Contracts::goes_so, memory::proofs::Footprints::footprints), unfolding(crate::specs::Moves::gone))]
 pub fn goes(memory: &mut Memory, card: u64) -> Result<u64, Refusal>
     ensures is { result ≡ (gone memory.old card).answer }
     ensures after { memory.new ≡ (gone memory.old card).memory }
     ensures wrote { Writes columns memory.old memory.new }
+    ensures law { Goes memory.old card result memory.new }
 {
     let Some(entry) = seek(memory, card) else {
         return Err(Refusal::Missing);

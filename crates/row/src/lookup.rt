@@ -2,6 +2,7 @@
 ghost use Rattle.std.specs.Prelude.{◌≡◌, ◌<◌, IfSome, [], ◌∷◌};
 ghost use Rattle.memory.specs.Footprints.{Writes};
 ghost use Rattle.row.specs.Lookup.{spread, bucket, followed, sought, found, entered, withdrawn, EntryBelow};
+ghost use Rattle.row.specs.Laws.{Finds};
 
 use crate::layout::{BUCKET, CHAIN, HEADS, IDS};
 use memory::Memory;
@@ -61,11 +62,12 @@ pub(crate) fn seek(memory: &Memory, card: u64) -> Option<Entry>
 }
 
 // The slot of a card, if it's there.
-#[tactic(auto, unfolding(crate::specs::Lookup::found))]
+#[tactic(auto, using(crate::proofs::Contracts::finds_so), unfolding(crate::specs::Lookup::found))]
 #[inline(always)]
 pub fn find(memory: &Memory, card: u64) -> Option<u64>
     ensures is { result ≡ found memory.now card }
     ensures below { IfSome result (λ slot. slot < CARDS) }
+    ensures law { Finds memory.now card result }
 {
     seek(memory, card).map(|entry| entry.number)
 }

@@ -5,33 +5,39 @@ ghost use Rattle.memory.specs.Footprints.{Writes};
 ghost use Rattle.row.specs.declared.layout.TheConstants.{TAKEN};
 ghost use Rattle.row.specs.Meaning.{ending};
 ghost use Rattle.row.specs.Moves.{put_at, seated_at, moved, drawn, compacted, roomy, tidied, packed, joined};
+ghost use Rattle.row.specs.Laws.{Orders, Sits, Putting, Packs};
 
 use crate::layout::{COUNT, ENDING, SEATS, SEATS_MOST, SLOTS, SPARE};
 use crate::marking::{is_taken, mark, unmark};
 use memory::Memory;
 
 // The seat of a slot that is a card's.
+#[tactic(auto, using(crate::proofs::Contracts::orders_so))]
 #[inline(always)]
 pub fn seat_of(memory: &Memory, slot: u64) -> u64
-    ensures { result ≡ cell memory.now SEATS slot }
+    ensures is { result ≡ cell memory.now SEATS slot }
+    ensures law { Orders memory.now slot result }
 {
     SEATS.get(memory, slot)
 }
 
 // The slot at a seat that is taken.
+#[tactic(auto, using(crate::proofs::Contracts::sits_so))]
 #[inline(always)]
 pub fn slot_at(memory: &Memory, seat: u64) -> u64
-    ensures { result ≡ cell memory.now SLOTS seat }
+    ensures is { result ≡ cell memory.now SLOTS seat }
+    ensures law { Sits memory.now seat result }
 {
     SLOTS.get(memory, seat)
 }
 
 // The slot is put at a seat, which is taken or not as before.
-#[tactic(auto, using(memory::proofs::Footprints::footprints))]
+#[tactic(auto, using(crate::proofs::Contracts::putting_so, memory::proofs::Footprints::footprints))]
 #[inline(always)]
 pub fn put_at(memory: &mut Memory, seat: u64, slot: u64)
     ensures is { memory.new ≡ put_at memory.old seat slot }
     ensures wrote { Writes (SLOTS ∷ SEATS ∷ []) memory.old memory.new }
+    ensures law { Putting memory.old seat slot memory.new }
 {
     SLOTS.set(memory, seat, slot);
     SEATS.set(memory, slot, seat);
@@ -60,7 +66,7 @@ fn move_to(memory: &mut Memory, seat: u64, to: u64)
     ensures is { memory.new ≡ moved memory.old seat to }
     ensures wrote { Writes (SLOTS ∷ SEATS ∷ TAKEN ∷ []) memory.old memory.new }
 {
-    let slot = SLOTS.get(memory, seat);
+    let slot = slot_at(memory, seat);
     unmark(memory, seat);
     sit(memory, to, slot);
 }
@@ -118,10 +124,11 @@ pub(crate) fn tidy(memory: &mut Memory)
 }
 
 // The same, if any seat is free among those in use: then a slot's seat is its place.
-#[tactic(auto, using(memory::proofs::Footprints::footprints), unfolding(crate::specs::Moves::packed))]
+#[tactic(auto, using(crate::proofs::Contracts::packs_so, memory::proofs::Footprints::footprints), unfolding(crate::specs::Moves::packed))]
 pub fn pack(memory: &mut Memory)
     ensures is { memory.new ≡ packed memory.old }
     ensures wrote { Writes (ENDING ∷ SLOTS ∷ SEATS ∷ TAKEN ∷ []) memory.old memory.new }
+    ensures law { Packs memory.old memory.new }
 {
     if ending(memory) != COUNT.get(memory, 0) {
         compact(memory);

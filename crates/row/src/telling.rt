@@ -1,7 +1,7 @@
 // From a place to its seat, and what is told of the row.
 ghost use Rattle.std.specs.Prelude.{◌≡◌, ◌≤◌, ◌<◌, ◌%◌, ◌^◌, ◌+◌, count_ones};
 ghost use Rattle.row.specs.Meaning.{taken};
-ghost use Rattle.row.specs.Laws.{Next};
+ghost use Rattle.row.specs.Laws.{Next, Selects, Tells};
 ghost use Rattle.row.specs.Telling.{Between, NextIn, next_seat, selected, told, told_count};
 
 use crate::cards::len;
@@ -68,8 +68,10 @@ fn nth_bit(bits: u64, wanted: u64) -> u64
 }
 
 // The taken seat that has so many taken ones before it; the number of seats, if there is none.
+#[tactic(auto, using(crate::proofs::Contracts::selects_so))]
 pub fn select(memory: &Memory, place: u64) -> u64
-    ensures { result ≡ selected memory.now place }
+    ensures is { result ≡ selected memory.now place }
+    ensures law { Selects memory.now place result }
 {
     let mut before = 0;
     for word in 0..WORDS {
@@ -84,10 +86,11 @@ pub fn select(memory: &Memory, place: u64) -> u64
 }
 
 // Tells the cards from `place` on, `n` of them: they are written to the front of `out`. Says how many: `n`, or none if the row or `out` hasn't so many.
-#[tactic(auto, using(crate::proofs::Steps::tellings), unfolding(crate::specs::Telling::told, crate::specs::Telling::told_count))]
+#[tactic(auto, using(crate::proofs::Contracts::tells_so, crate::proofs::Steps::tellings), unfolding(crate::specs::Telling::told, crate::specs::Telling::told_count))]
 pub fn tell(memory: &Memory, place: u64, n: u64, out: &mut [u64]) -> u64
     ensures is { result ≡ told_count memory.now place n out.old }
     ensures out { out.new ≡ told memory.now place n out.old }
+    ensures law { Tells memory.now place n out.old result out.new }
 {
     let count = len(memory).min(CARDS);
     if place > count || n > count - place || n > out.len() as u64 {

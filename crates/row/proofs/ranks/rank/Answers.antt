@@ -5,6 +5,7 @@ use Rattle.std.proofs.lemmas.Nat.{and_le_l}
 use Rattle.row.specs.declared.layout.TheConstants.{TAKEN}
 use Rattle.row.specs.Meaning.{rank}
 use Rattle.row.proofs.Counting.{rank_word, rank_part, rank_last, rank_le, rank_zero, words_are, word_is}
+use Rattle.row.proofs.Contracts.{ranks_so}
 use Rattle.row.proofs.ranks.rank.Goals as goal
 
 pub loop-word-init : goal.loop-word-init
@@ -49,4 +50,5 @@ returns c =
     let low : ℕ = 1 * 2 ^ (p % 64) % 18446744073709551616 - 1 in
     let b = ap (λ (w : ℕ). ones (bit_and w low)) c.get.ensures in
     let d = ap (rank m) c.min-seat.ensures in
-    ap₂ (λ (x y : ℕ). x + y) a b ∙ rank_part m p ∙ d ∙ rank_last m c.args.seat
+    let r = ap₂ (λ (x y : ℕ). x + y) a b ∙ rank_part m p ∙ d ∙ rank_last m c.args.seat in
+    record { is = r; law = ranks_so m c.args.seat _ r }

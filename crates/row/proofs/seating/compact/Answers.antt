@@ -1,9 +1,9 @@
-use Rattle.std.proofs.Common.{◌≡◌, [], ◌∷◌, ◌+◌, ◌-◌, ℕ, List, refl, sym, ap, ap₂, subst, ◌∙◌, arith}
+use Rattle.std.proofs.Common.{[], ◌∷◌, ◌+◌, ◌-◌, ℕ, List, sym, ap₂, subst, ◌∙◌, arith}
 use Rattle.memory.specs.Footprints.{Writes}
 use Rattle.memory.proofs.Footprints.{on}
 use Rattle.row.specs.declared.layout.TheConstants.{SLOTS, SEATS, TAKEN}
 use Rattle.row.specs.Meaning.{ending}
-use Rattle.row.specs.Moves.{drawn, packed_from}
+use Rattle.row.specs.Moves.{packed_from}
 use Rattle.row.proofs.Steps.{packed_taken, packed_free}
 use Rattle.row.proofs.seating.compact.Goals.{then-is_taken, else-is_taken}
 use Rattle.row.proofs.seating.compact.Goals as goal

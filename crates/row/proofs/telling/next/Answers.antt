@@ -1,4 +1,4 @@
-use Rattle.std.proofs.Common.{◌≡◌, ◌≤◌, sym, ◌∙◌, arith}
+use Rattle.std.proofs.Common.{◌≤◌, sym, ◌∙◌, arith}
 use Rattle.row.specs.declared.layout.TheConstants.{SEATS_MOST}
 use Rattle.row.specs.Meaning.{taken}
 use Rattle.row.specs.Laws.{Next}

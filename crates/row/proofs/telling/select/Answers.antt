@@ -1,9 +1,11 @@
-use Rattle.std.proofs.Common.{◌≡◌, ℕ, ◌*◌, ◌-◌, sym, refl, ap, subst, ◌∙◌, arith}
+use Rattle.std.proofs.Common.{◌≡◌, ℕ, ◌*◌, ◌-◌, sym, ap, subst, arith}
 use lib.Count.{ones, ones-le}
+use Rattle.row.specs.declared.layout.TheConstants.{SEATS_MOST, WORDS}
 use Rattle.row.specs.Meaning.{rank}
 use Rattle.row.specs.Telling.{Between}
 use Rattle.row.proofs.Counting.{rank_word, rank_le, rank_zero}
 use Rattle.row.proofs.Halving.{selected_here, selected_none}
+use Rattle.row.proofs.Contracts.{selects_so}
 use Rattle.row.proofs.telling.select.Goals as goal
 
 pub loop-word-init : goal.loop-word-init
@@ -23,11 +25,16 @@ loop-word-preserved c =
 
 pub returns-then-place-before : goal.returns-then-place-before
 returns-then-place-before c =
-    sym (selected_here c.args.memory.now c.loop-word.word c.args.place c.loop-word.before c.nth_bit.result (omega arith) c.loop-word.invariant.sum
+    let m = c.args.memory.now in
+    let r =
+    sym (selected_here m c.loop-word.word c.args.place c.loop-word.before c.nth_bit.result (omega arith) c.loop-word.invariant.sum
     c.loop-word.invariant.within c.nth_bit.ensures.below
-    (subst (λ (w : ℕ). Between w (c.args.place - c.loop-word.before) c.nth_bit.result 1) c.get-bits.ensures (c.nth_bit.ensures.law (omega arith))))
+    (subst (λ (w : ℕ). Between w (c.args.place - c.loop-word.before) c.nth_bit.result 1) c.get-bits.ensures (c.nth_bit.ensures.law (omega arith)))) in
+    record { is = r; law = selects_so m c.args.place _ r }
 
 pub returns : goal.returns
 returns c =
-    let e = ap (λ (w : ℕ). rank c.args.memory.now (w * 64)) (let z : c.loop-word.word ≡ 256 = omega arith in z) in
-    sym (selected_none c.args.memory.now c.args.place (let s = c.loop-word.invariant.sum in let w = c.loop-word.invariant.within in omega arith))
+    let m = c.args.memory.now in
+    let e = ap (λ (w : ℕ). rank m (w * 64)) (let z : c.loop-word.word ≡ WORDS = omega arith in z) in
+    let r = sym (selected_none m c.args.place (let s = c.loop-word.invariant.sum in let w = c.loop-word.invariant.within in omega arith)) in
+    record { is = r; law = selects_so m c.args.place SEATS_MOST r }

@@ -1,5 +1,5 @@
-use Rattle.std.proofs.Common.{◌≡◌, ◌-◌, length}
-use Rattle.row.specs.Telling.{selected, tells}
+use Rattle.std.proofs.Common.{◌≡◌, ◌-◌}
+use Rattle.row.specs.Telling.{tells}
 use Rattle.row.proofs.telling.tell.Given as goal
 
 abbrev pub invariant-loop-told : goal.invariant-loop-told
