@@ -17,7 +17,7 @@ use Rattle.search.specs.declared.layout.TheConstants.{VIA}
 use Rattle.search.specs.Hunt.{meeting}
 use Rattle.search.specs.Way.{way}
 use Rattle.search.proofs.Joining.{way_few}
-use Rattle.search.proofs.Touching.{meeting_writes}
+use Rattle.search.proofs.Touching.{writes_meeting}
 use Rattle.keeper.specs.Promise.{all_small, small_command}
 use Rattle.keeper.specs.Sized.{KeepsSize}
 use Rattle.keeper.specs.Linking.{slots_found}
@@ -65,7 +65,7 @@ joined_slots_fits m x =
     let n = (meeting m x).memory in
     cond_both (ltb (cell m SEATS x.to) (cell m SEATS x.from)) _ _ (JoinedFits m)
     (λ _. given_holds Any (JoinedFits m) (meeting m x).answer _ _ tt tt
-    (λ y _. way_then m n (Some (round_cards n x y)) (size_writes _ m n (meeting_writes m x)) (round_fits n x y)))
+    (λ y _. way_then m n (Some (round_cards n x y)) (size_writes _ m n (writes_meeting m x)) (round_fits n x y)))
     (λ _. tt)
 
 joined_fits : (m : List ℕ) (l : Link) → small_command (Links l) ≡ true → WayFits m (joined m l).way

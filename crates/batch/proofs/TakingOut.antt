@@ -3,29 +3,23 @@ use Rattle.std.proofs.Common.{◌≡◌, ℕ, Bool, true, false, not, List, [], 
 use Rattle.std.proofs.lemmas.Bool.{eq-eqb, and_parts}
 use Rattle.std.proofs.lemmas.Bool.Decides.{nat_tests}
 use Rattle.order.specs.declared.board.Link.{Link}
-use Rattle.command.specs.declared.command.Command.TheVariants.{Link as Links, Unlink as Unlinks}
+use Rattle.command.specs.declared.command.Command.TheVariants.{Link as Links}
 use Rattle.order.specs.Lists.{every, any, filter}
 use Rattle.order.specs.Board.{Board, ◌⟶◌, linked}
 use Rattle.order.specs.Renaming.{named}
 use Rattle.memory.specs.Columns.{cell}
-use Rattle.memory.specs.Footprints.{Writes}
 use Rattle.row.specs.declared.layout.TheConstants.{IDS}
 use Rattle.row.specs.Meaning.{used}
 use Rattle.order.proofs.Climbs.{fine_parts, link_ends}
 use Rattle.order.proofs.RenamesLinks.{Known, joins_map}
 use Rattle.links.specs.Pairs.{joins}
-use Rattle.links.specs.Entries.{removed}
-use Rattle.links.specs.Table.{columns as table, edges, once}
-use Rattle.links.specs.Laws.{StaysOnce}
-use Rattle.links.proofs.Onces.{stays_once}
-use Rattle.links.proofs.Writing.{removed_writes}
-use Rattle.search.specs.Meaning.{slot_board, Ready}
+use Rattle.links.specs.Table.{edges, once}
+use Rattle.search.specs.Meaning.{Ready}
 use Rattle.keeper.specs.Promise.{small_command}
 use Rattle.keeper.specs.Meaning.{card_board, Means}
 use Rattle.keeper.proofs.Knowing.{fine_cards, ends_used}
-use Rattle.keeper.proofs.Carrying.{unmarked, unmarked_kept, same_row, means_by}
 use Rattle.keeper.proofs.TwoCards.{Seated, seated, slots_there, linked_is}
-use Rattle.keeper.proofs.Unlinking.{law, fine_after, board_after}
+use Rattle.keeper.proofs.Unlinking.{removed_means}
 use Rattle.batch.specs.Several.{with_links}
 use Rattle.batch.specs.Joining.{dropped, taken_out}
 use Rattle.batch.specs.UndoLaws.{TakesOut}
@@ -69,22 +63,13 @@ once_cards m r M =
 abbrev without : Board → Link → Board
 without r l = record { row = r.row; links = filter (λ y. not (joins l y)) r.links }
 
-module _ (m : List ℕ) (M : Means m (card_board m)) (l : Link) (sm : small_command (Unlinks l) ≡ true) (h : linked (card_board m) l.from l.to ≡ true) where
+module _ (m : List ℕ) (M : Means m (card_board m)) (l : Link) (h : linked (card_board m) l.from l.to ≡ true) where
   abbrev R : Ready m
   R = M.ready
 
   by_slots : (s t : ℕ) → Seated m l.from s → Seated m l.to t → Means (dropped m l) (without (card_board m) l)
-  unfolding dropped StaysOnce
-  by_slots s t A B =
-      let x = s ⟶ t in
-      let m' = (removed m x).memory in
-      let w : Writes table m m' = removed_writes m x in
-      let k = sym (linked_is m R l.from l.to s t A B) ∙ h in
-      let o = M.single in
-      let e = law m R o M.idle l sm s t A B in
-      rw (slots_there m R l s t A B)
-      (means_by table m m' w refl M ((same_row table m m' w refl).is_row R.is_row) e.0 (unmarked_kept table m m' w refl (unmarked m R)) (slot_board m') refl
-      (fine_after m R o M.idle l sm s t A B k) (ap once e.1 ∙ stays_once.2 _ (edges m) o) (without (card_board m) l) (board_after m R o M.idle l sm s t A B k))
+  unfolding dropped
+  by_slots s t A B = rw (slots_there m R l s t A B) (removed_means m M l s t A B (sym (linked_is m R l.from l.to s t A B) ∙ h))
 
   drops : Means (dropped m l) (without (card_board m) l)
   drops =
@@ -94,12 +79,10 @@ module _ (m : List ℕ) (M : Means m (card_board m)) (l : Link) (sm : small_comm
       let B = seated m R l.to p.1 in
       by_slots A.0 B.0 A.1 B.1
 
-dropped_means : (m : List ℕ) (r : Board) (l : Link) → small_command (Links l) ≡ true → Means m r → linked r l.from l.to ≡ true →
-    Means (dropped m l) (without r l)
-unfolding small_command
-dropped_means m r l sm M h =
+dropped_means : (m : List ℕ) (r : Board) (l : Link) → Means m r → linked r l.from l.to ≡ true → Means (dropped m l) (without r l)
+dropped_means m r l M h =
     let e = M.is in
-    subst (λ (b : Board). Means (dropped m l) (without b l)) (sym e) (drops m (subst (Means m) e M) l sm (rw e at h))
+    subst (λ (b : Board). Means (dropped m l) (without b l)) (sym e) (drops m (subst (Means m) e M) l (rw e at h))
 
 -- all of them
 pub takes_out : TakesOut
@@ -111,4 +94,4 @@ takes_out m r (l ∷ ks) sm M =
     any_append (joins l) r.links (l ∷ ks) ∙ (let p = eq-eqb l.from l.from refl in let q = eq-eqb l.to l.to refl in grind arith) in
     takes_out (dropped m l) r ks s.1
     (subst (λ (ls : List Link). Means (dropped m l) (record { row = r.row; links = ls })) (one_out l r.links ks (once_cards m _ M))
-    (dropped_means m (with_links r (l ∷ ks)) l s.0 M here))
+    (dropped_means m (with_links r (l ∷ ks)) l M here))

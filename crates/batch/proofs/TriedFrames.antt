@@ -15,9 +15,10 @@ use Rattle.search.specs.declared.layout.TheConstants.{VIA, CHOSEN, FORE, HIND}
 use Rattle.search.specs.Columns.{searched, sets}
 use Rattle.search.specs.Hunt.{meeting}
 use Rattle.search.specs.Settle.{forgotten, settled}
-use Rattle.search.proofs.Touching.{meeting_writes}
-use Rattle.search.proofs.SettleFrames.{settled_writes, forgotten_writes}
+use Rattle.search.proofs.Touching.{writes_meeting}
+use Rattle.search.proofs.SettleFrames.{writes_forgotten}
 use Rattle.keeper.specs.Linking.{slots_found}
+use Rattle.keeper.proofs.Bounds.{settled_writes}
 use Rattle.batch.specs.Joining.{Joined, joined_slots, joined, Tried, tried, dropped, taken_out}
 
 -- the columns that are written
@@ -38,11 +39,11 @@ joined_slots_writes : (m : List ℕ) (x : Link) → Trying m (joined_slots m x).
 unfolding joined_slots
 joined_slots_writes m x =
     let n = (meeting m x).memory in
-    let h = less tried_columns searched m n refl (meeting_writes m x) in
+    let h = less tried_columns searched m n refl (writes_meeting m x) in
     let k = after tried_columns _ m n (settled n) refl (settled_writes n) h in
     cond_both (ltb (cell m SEATS x.to) (cell m SEATS x.from)) _ _ (λ (y : Joined). Trying m y.memory)
     (λ _. given_holds Any (λ (y : Joined). Trying m y.memory) (meeting m x).answer _ _ tt (then_inserted m (settled n) x k)
-    (λ y _. after tried_columns sets m n (forgotten n) refl (forgotten_writes n) h))
+    (λ y _. after tried_columns sets m n (forgotten n) refl (writes_forgotten n) h))
     (λ _. then_inserted m m x (same tried_columns m))
 
 pub joined_writes : (m : List ℕ) (l : Link) → Trying m (joined m l).memory
