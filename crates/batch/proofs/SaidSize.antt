@@ -36,7 +36,7 @@ use Rattle.keeper.specs.Answers.{quiet, ends}
 use Rattle.keeper.specs.declared.event.Act.TheVariants.{Done}
 use Rattle.batch.specs.declared.checking.Named.{Named}
 use Rattle.batch.proofs.Saving.{saved_writes}
-use Rattle.batch.proofs.Reseating.{reseated_writes}
+use Rattle.batch.proofs.Writing.{reseated_writes}
 use Rattle.batch.proofs.SpanTold.{noting_writes}
 use Rattle.batch.proofs.TriedFrames.{joined_writes, tried_writes, taken_out_writes}
 
@@ -127,7 +127,7 @@ module _ (m : List ℕ) (s : Span) (b : Bounded s) where
   size_reseated : (ls : List Link) → KeepsSize m (reseated (min s.high CARDS - s.low) (taken_out m ls) s.low)
   size_reseated ls =
       let n = taken_out m ls in
-      size_then m n _ (size_writes _ m n (taken_out_writes m ls)) (size_writes _ n _ (reseated_writes n s.low (min s.high CARDS - s.low) (omega arith)))
+      size_then m n _ (size_writes _ m n (taken_out_writes m ls)) (size_writes _ n _ (reseated_writes (min s.high CARDS - s.low) n s.low (omega arith)))
 
 size_undone : (m : List ℕ) (o : Option Span) (b : BoundedPart o) (ls : List Link) → KeepsSize m (undone m ls o)
 unfolding undone

@@ -26,7 +26,8 @@ use Rattle.batch.specs.Seating.{reseated}
 use Rattle.batch.specs.SeatLaws.{Seated}
 use Rattle.batch.proofs.Denseness.{row_is, few}
 use Rattle.batch.proofs.ReadyAgain.{ids_kept}
-use Rattle.batch.proofs.Reseating.{reseats, reseated_writes}
+use Rattle.batch.proofs.Reseating.{reseats}
+use Rattle.batch.proofs.Writing.{reseated_writes}
 use Rattle.batch.proofs.Tries.{means_fine}
 use Rattle.batch.proofs.SameCards.{as_long}
 use Rattle.batch.proofs.Ends.{SameEnds}
@@ -111,7 +112,7 @@ module _ (m m' : List ℕ) (r : Board) (row : List ℕ) (lo n : ℕ) (M : Means 
   seated = reseats m' lo n P.dense_since few_since each_once same
 
   frame : Writes (SLOTS ∷ SEATS ∷ []) m' m''
-  frame = reseated_writes m' lo n (omega (arith, few_since, few m' P.dense_since))
+  frame = reseated_writes n m' lo (omega (arith, few_since, few m' P.dense_since))
 
   -- the row is as it was
   row_again : row_of m'' ≡ row_of m
