@@ -2,6 +2,7 @@
 use Rattle.std.proofs.Common.{◌≡◌, ℕ, zero, suc, ◌+◌, leb, List, [], length, sym, refl, ap, ◌∙◌, inl, inr, arith}
 use Rattle.std.proofs.lemmas.Bool.{cases_Bool}
 use Rattle.command.specs.Commands.{Told}
+use Rattle.keeper.specs.declared.layout.TheConstants.{TOLD}
 use Rattle.keeper.specs.declared.event.Event.{Event}
 use Rattle.keeper.specs.declared.event.Event.TheVariants.{Said, Next}
 use Rattle.keeper.specs.Engine.{Action, tells, shows, done, refused, Engine, Ran, one_act, runs}
@@ -17,7 +18,7 @@ act_more : (go go' : Go) → ((m : List ℕ) (ts : List Told) (ss : List (List �
     (ts : List Told) (ss : List (List ℕ)) (m : List ℕ) (a : Action) → ((one_act go ts ss m a).end ≡ 1000 → ⊥) →
     one_act go' ts ss m a ≡ one_act go ts ss m a
 unfolding one_act
-act_more go go' k ts ss m (tells i ks) h = elim (cases_Bool (leb (length ks) 4096)) [
+act_more go go' k ts ss m (tells i ks) h = elim (cases_Bool (leb (length ks) TOLD)) [
   | inl t ↦ rw t (k m _ ss (rw t at h))
   | inr t ↦ rw t
 ]
@@ -43,7 +44,7 @@ end_stays n (suc k) e m c h =
 pub act_size : (m₀ : List ℕ) (go : Go) → ((m : List ℕ) (ts : List Told) (ss : List (List ℕ)) → KeepsSize m₀ m → KeepsSize m₀ (go m ts ss).memory) →
     (ts : List Told) (ss : List (List ℕ)) (m : List ℕ) → KeepsSize m₀ m → (a : Action) → KeepsSize m₀ (one_act go ts ss m a).memory
 unfolding one_act
-act_size m₀ go k ts ss m b (tells i ks) = elim (cases_Bool (leb (length ks) 4096)) [
+act_size m₀ go k ts ss m b (tells i ks) = elim (cases_Bool (leb (length ks) TOLD)) [
   | inl t ↦ rw t (k m _ ss b)
   | inr t ↦ rw t b
 ]

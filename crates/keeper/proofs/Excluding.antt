@@ -6,6 +6,7 @@ use Rattle.command.specs.declared.command.Command.TheVariants.{Comes}
 use Rattle.order.specs.Lists.{every, any}
 use Rattle.order.specs.Reordering.{link_refusal}
 use Rattle.command.specs.Commands.{Told, refusal}
+use Rattle.keeper.specs.declared.layout.TheConstants.{TOLD}
 use Rattle.keeper.specs.declared.event.Event.{Event}
 use Rattle.keeper.specs.declared.event.Event.TheVariants.{Said, Next}
 use Rattle.keeper.specs.Engine.{Action, tells, shows, done, refused, Engine, one_act, runs}
@@ -32,7 +33,7 @@ idle_is_not e i = never_whole e (idle_never e i)
 act_never : (go : Go) → ((m : List ℕ) (ts : List Told) (ss : List (List ℕ)) → (go m ts ss).end ≡ 0 → ⊥) →
     (ts : List Told) (ss : List (List ℕ)) (m : List ℕ) (a : Action) → a ≢ done → ((k : ℕ) → a ≢ refused k) → (one_act go ts ss m a).end ≡ 0 → ⊥
 unfolding one_act
-act_never go x ts ss m (tells i ks) d f h = elim (cases_Bool (leb (length ks) 4096)) [
+act_never go x ts ss m (tells i ks) d f h = elim (cases_Bool (leb (length ks) TOLD)) [
   | inl t ↦ x m _ ss (rw t at h)
   | inr t ↦ let g = rw t at h in omega arith
 ]

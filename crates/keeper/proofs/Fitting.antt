@@ -2,6 +2,8 @@
 use Rattle.std.proofs.Common.{◌≡◌, ℕ, ◌<◌, ◌≤◌, ◌≢◌, Bool, true, false, List, ◌++◌, length, take, drop, Result, Err, sym, refl, ap, ◌∙◌, ap₂, arith}
 use Rattle.std.proofs.lemmas.Bool.Decides.{nat_tests}
 use Rattle.std.proofs.lemmas.Bool.{eq-eqb, ne_eqb}
+use Rattle.memory.specs.declared.column.TheConstants.{MEMORY}
+use Rattle.keeper.specs.declared.layout.TheConstants.{OUTPUT}
 use Rattle.keeper.specs.declared.event.Event.{Event}
 use Rattle.keeper.specs.declared.event.Event.TheVariants.{Said, Next}
 use Rattle.keeper.specs.declared.event.Act.{Act}
@@ -18,24 +20,24 @@ use Rattle.keeper.specs.Own.{said, went_on, answer, steps, step_fits, StepBy, St
 use Rattle.keeper.proofs.Writing.{written_few}
 use Rattle.keeper.proofs.Room.{few_answer, front_stands}
 
-pub other_size : (m out : List ℕ) → length m ≢ 524288 → step_fits m out ≡ false
+pub other_size : (m out : List ℕ) → length m ≢ MEMORY → step_fits m out ≡ false
 other_size m out n = grind (arith, nat_tests)
 
-pub short_out : (m out : List ℕ) → length out < 8192 → step_fits m out ≡ false
+pub short_out : (m out : List ℕ) → length out < OUTPUT → step_fits m out ≡ false
 short_out m out l = grind (arith, nat_tests)
 
 -- a step whose answer is given in the front of the output
-pub took : (w : Telling) (m : List ℕ) (ev : Event) (out : List ℕ) (r : Result Act Reason) (m₁ front₁ : List ℕ) → length m ≡ 524288 → 8192 ≤ length out →
-    Gives (as_told w (answer m ev)) (take 8192 out) r m₁ front₁ → StepsTo (stepped w m ev out) r m₁ (front₁ ++ drop 8192 out)
+pub took : (w : Telling) (m : List ℕ) (ev : Event) (out : List ℕ) (r : Result Act Reason) (m₁ front₁ : List ℕ) → length m ≡ MEMORY → OUTPUT ≤ length out →
+    Gives (as_told w (answer m ev)) (take OUTPUT out) r m₁ front₁ → StepsTo (stepped w m ev out) r m₁ (front₁ ++ drop OUTPUT out)
 unfolding stepped as_told
 took w m ev out r m₁ front₁ e h g =
     let f : step_fits m out ≡ true = grind (arith, nat_tests) in
     let ks = (as_told w (answer m ev)).numbers in
-    let l : length ks ≤ 8192 = omega (arith, written_few w (answer m ev).act (answer m ev).numbers, few_answer m ev) in
+    let l : length ks ≤ OUTPUT = omega (arith, written_few w (answer m ev).act (answer m ev).numbers, few_answer m ev) in
     rw f (record {
       act = g.act;
       after = g.after;
-      out = ap (λ (xs : List ℕ). xs ++ drop 8192 out) g.out ∙ front_stands 8192 ks out l h;
+      out = ap (λ (xs : List ℕ). xs ++ drop OUTPUT out) g.out ∙ front_stands OUTPUT ks out l h;
     })
 
 pub untook : (w : Telling) (m : List ℕ) (ev : Event) (out : List ℕ) → step_fits m out ≡ false → StepsTo (stepped w m ev out) (Err Unfit) m out

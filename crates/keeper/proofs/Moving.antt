@@ -1,107 +1,117 @@
--- A link that goes backward and can be kept: the row is settled for it and told, and the memory means the board with the link.
-use Rattle.std.proofs.Common.{◌≡◌, ℕ, ◌<◌, ◌≤◌, true, false, ◌&&◌, List, [], ◌∷◌, ◌++◌, map, length, None, sym, refl, ap, ◌∙◌, subst, ap₂, arith}
-use Rattle.std.proofs.lemmas.Bool.{lt-ltb, le-leb, lt-leb}
+-- A link that goes backward and can be kept: the row is settled for it, and the memory means the board with the link.
+use Rattle.std.proofs.Common.{◌≡◌, ℕ, ◌<◌, ◌≤◌, true, false, ◌&&◌, List, [], ◌∷◌, ◌++◌, map, length, None, refl, sym, ap, ap₂, ◌∙◌, subst, arith}
+use lib.ListN.{length-map}
+use Rattle.std.proofs.lemmas.Bool.{lt-ltb, ltb-true, le-leb, lt-leb}
+use Rattle.order.specs.declared.board.TheConstants.{CARDS, LINKS}
 use Rattle.order.specs.declared.board.Link.{Link}
-use Rattle.command.specs.declared.command.Command.TheVariants.{Link as Links}
 use Rattle.order.specs.declared.board.Refusal.TheVariants.{Full}
-use Rattle.order.specs.Lists.{any, has, place}
-use Rattle.order.specs.Board.{Board, ◌⟶◌, linked, leads, fine}
-use Rattle.command.specs.Commands.{refusal}
-use Rattle.order.specs.Reordering.{link_must_be, link_refusal, with_link, backward}
+use Rattle.order.specs.Lists.{every, any, place}
+use Rattle.order.specs.Board.{Board, ◌⟶◌, leads, keeps, fine}
+use Rattle.order.specs.Reordering.{link_refusal, link_must_be, with_link, backward, firm}
+use Rattle.order.specs.Renaming.{renamed}
+use Rattle.order.proofs.Filters.{every_more}
+use Rattle.command.specs.declared.command.Command.TheVariants.{Link as Links}
+use Rattle.command.specs.Commands.{refusal, must_be}
+use Rattle.command.proofs.Staying.{must_may}
+use Rattle.memory.specs.declared.column.Column.{Column}
 use Rattle.memory.specs.Columns.{cell}
-use Rattle.row.specs.Layout.{ids, slots, places, count}
-use Rattle.row.specs.Meaning.{used, row_of, cards, Stands}
-use Rattle.order.specs.Renaming.{named}
-use Rattle.row.proofs.Depending.{depends}
-use Rattle.row.proofs.Closes.{used_below}
-use Rattle.row.proofs.Named.{has_slot, place_slot, cards_named, row_used}
-use Rattle.row.proofs.Present.{used_place}
-use Rattle.links.specs.Entries.{joins}
-use Rattle.links.specs.Building.{inserted}
-use Rattle.links.specs.Meaning.{edges, once, Tabled}
-use Rattle.links.specs.Frames.{Only}
-use Rattle.links.proofs.Operating.{counts, inserts, stays_once}
-use Rattle.links.proofs.Bounding.{writes_only}
-use Rattle.search.specs.Meaning.{slot_board, Ready}
+use Rattle.memory.specs.Footprints.{Writes}
+use Rattle.memory.proofs.Footprints.{less, after as then}
+use Rattle.row.specs.declared.layout.TheConstants.{IDS, COUNT, SLOTS, SEATS}
+use Rattle.row.specs.Meaning.{count, used, row_of, cards, place_at}
+use Rattle.row.specs.Theory.{SameRow}
+use Rattle.row.proofs.Named.{has_slot, place_slot, order_slots, row_used, length_slots, used_below}
+use Rattle.row.proofs.Present.{used_place, few_cards}
+use Rattle.links.specs.declared.layout.TheConstants.{ENTRIES}
+use Rattle.links.specs.Pairs.{joins}
+use Rattle.links.specs.Table.{columns as link_columns, edges}
+use Rattle.links.specs.Entries.{live, inserted}
+use Rattle.links.specs.Laws.{StaysOnce}
+use Rattle.links.proofs.Keeping.{live_kept}
+use Rattle.links.proofs.Operating.{counts, inserts_table, inserts_edges}
+use Rattle.links.proofs.Onces.{stays_once}
+use Rattle.links.proofs.Writing.{inserted_writes}
+use Rattle.search.specs.Columns.{columns as search_columns, searched}
+use Rattle.search.specs.Meaning.{slot_board, Ready, Parted}
+use Rattle.search.specs.Settle.{forgotten, settled}
+use Rattle.search.specs.SettleLaws.{Settled, Settles}
+use Rattle.search.proofs.RowSettled.{settles as row_settles}
 use Rattle.keeper.specs.Promise.{small_command}
-use Rattle.keeper.specs.Answers.{pending, leaves_pending}
+use Rattle.keeper.specs.Answers.{leaves_pending}
+use Rattle.keeper.specs.Reordering.{moved}
 use Rattle.keeper.specs.Own.{said, own}
 use Rattle.keeper.specs.Meaning.{card_board, Means}
 use Rattle.keeper.proofs.Simulation.{StepKept}
 use Rattle.keeper.proofs.Opened.{open_stays}
 use Rattle.keeper.proofs.Knowing.{names}
-use Rattle.keeper.proofs.Carrying.{Noted, links_same, links_unmarked}
+use Rattle.keeper.proofs.Carrying.{unmarked_kept, same_row, same_ids, board_of, means_by, Noted, settles}
 use Rattle.keeper.proofs.Saying.{refuses_kept, full_is_not}
-use Rattle.keeper.proofs.Forward.{both, linked_here}
-use Rattle.keeper.proofs.Noting.{settles}
-use Rattle.keeper.proofs.CardsGo.{all_named}
-use Rattle.keeper.proofs.TwoCards.{Seated, leads_is, backward_is, backward_places}
-use Rattle.std.proofs.lemmas.List.FromFn.{length-map-range_with_len}
-use lib.ListN.{length-map}
-use Rattle.command.proofs.Staying.{must_may}
-use Rattle.order.proofs.Filters.{every_more}
-use Rattle.order.specs.Reordering.{firm}
-use Rattle.command.specs.Commands.{must_be}
-use Rattle.order.specs.Board.{keeps}
-use Rattle.order.specs.Lists.{every}
-use Rattle.links.specs.Layout.{live}
-use Rattle.search.specs.Layout.{fore, hind}
-use Rattle.search.specs.Settle.{forgotten, settled}
-use Rattle.search.specs.Meaning.{Parted}
-use Rattle.search.specs.SettleLaws.{Settled}
-use Rattle.search.proofs.RowSettled.{settles as row_settles}
-use Rattle.search.proofs.Frames.{cells_alone}
-use Rattle.search.proofs.Showing.{map_same}
-use Rattle.keeper.specs.Reordering.{moved}
-use Rattle.keeper.proofs.Backward.{forgotten_ready, forgotten_edges, forgotten_tally, forgotten_board}
+use Rattle.keeper.proofs.Forward.{both, linked_here, links_counted}
+use Rattle.keeper.proofs.Backward.{forgotten_means}
+use Rattle.keeper.proofs.TwoCards.{Seated, leads_is, backward_seats}
 
-module _ (m : List ℕ) (R : Ready m) (o : once (edges m) ≡ true) (i : pending m ≡ 0) (l : Link) (sm : small_command (Links l) ≡ true)
-    (s t : ℕ) (A : Seated m l.from s) (B : Seated m l.to t) (ha : has (cards m) l.from ≡ true) (hb : has (cards m) l.to ≡ true)
-    (n : any (joins (s ⟶ t)) (edges m) ≡ false) (w : cell m places t < cell m places s) (m₁ : List ℕ) (P : Parted m m₁ s t) where
+module _ (m : List ℕ) (M : Means m (card_board m)) (l : Link) (s t : ℕ) (A : Seated m l.from s) (B : Seated m l.to t)
+    (n : any (joins (s ⟶ t)) (edges m) ≡ false) (w : cell m SEATS t < cell m SEATS s) (m₁ : List ℕ) (P : Parted m m₁ s t) where
   abbrev r : Board
   r = card_board m
+
+  abbrev R : Ready m
+  R = M.ready
 
   abbrev x : Link
   x = s ⟶ t
 
+  -- the places of the two cards
   abbrev low : ℕ
-  low = cell m places t
+  low = place_at m t
 
   abbrev high : ℕ
-  high = cell m places s
+  high = place_at m s
+
+  pub place_low : place r.row l.to ≡ low
+  place_low = ap (place r.row) (sym B.card) ∙ (names m R).place_named t B.in_use ∙ place_slot m R.is_row t B.in_use
+
+  pub place_high : place r.row l.from ≡ high
+  place_high = ap (place r.row) (sym A.card) ∙ (names m R).place_named s A.in_use ∙ place_slot m R.is_row s A.in_use
+
+  pub bounds : (low < high) × (high < count m) × (count m ≤ CARDS)
+  bounds =
+      let o = ltb-true _ _ (sym (order_slots m R.is_row t s B.in_use A.in_use) ∙ lt-ltb _ _ w) in
+      let p = place_slot m R.is_row t B.in_use in
+      let q = place_slot m R.is_row s A.in_use in
+      (omega arith, (used_place m R.is_row s A.in_use).0, few_cards m R.is_row)
+
+  -- the search left the row and the links as they were
+  searched_row : SameRow m m₁
+  searched_row = same_row searched m m₁ P.kept refl
+
+  pub same_places : (u : ℕ) → place_at m₁ u ≡ place_at m u
+  same_places = searched_row.same_places
+
+  pub same_live : live m₁ ≡ live m
+  same_live = live_kept searched refl m m₁ P.kept
 
   no_round : leads r l.to l.from ≡ false
   no_round = leads_is m R l.from l.to s t A B ∙ P.no_round
 
-  abbrev all_in : (has r.row l.from && has r.row l.to) ≡ true
-  all_in = both m R o i l sm s t A B ha hb
-
-  not_linked : linked r l.from l.to ≡ false
-  not_linked = linked_here m R o i l sm s t A B ha hb ∙ n
-
-  links_counted : length r.links ≡ live m
-  links_counted = (names m R).length_links_named ∙ sym (counts m R.tabled).0
-
-  pub full : said m (Links l) ≡ moved m₁ x low high → 65536 ≤ live m → StepKept own 3 Means m r (Links l)
+  pub full : small_command (Links l) ≡ true → said m (Links l) ≡ moved m₁ x → LINKS ≤ live m → StepKept own 3 Means m r (Links l)
   unfolding refusal link_refusal moved
-  full se h =
-      let K = P.kept in
-      let q = forgotten m₁ in
-      refuses_kept Means m q r (Links l) Full i sm
-      (rw (all_in, not_linked, no_round, le-leb 65536 (length r.links) (omega (arith, links_counted)))) full_is_not
-      (se ∙ rw (le-leb 65536 (live m₁) (omega (arith, K.same_tally 2))) refl)
-      (record {
-        ready = forgotten_ready m m₁ R K P.fore_summed P.hind_summed;
-        single = ap once (forgotten_edges m m₁ R K P.fore_summed P.hind_summed) ∙ o;
-        idle = forgotten_tally m m₁ R K P.fore_summed P.hind_summed 4 ∙ i;
-        is = forgotten_board m m₁ R K P.fore_summed P.hind_summed;
-      })
+  full sm se h =
+      refuses_kept Means m (forgotten m₁) r (Links l) Full M.idle sm
+      (rw (both m M l s t A B, linked_here m M l s t A B ∙ n, no_round, le-leb LINKS (length r.links) (omega (arith, links_counted m M l s t A B)))) full_is_not
+      (se ∙ rw (le-leb LINKS (live m₁) (omega (arith, same_live))) refl)
+      (forgotten_means m m₁ r P.kept P.fore_summed P.hind_summed M)
 
-  pub allowed : live m < 65536 → refusal r (Links l) ≡ None
+  pub allowed : live m < LINKS → refusal r (Links l) ≡ None
   unfolding refusal link_refusal
-  allowed h = rw (all_in, not_linked, no_round, lt-leb 65536 (length r.links) (omega (arith, links_counted)))
+  allowed h =
+      rw (both m M l s t A B, linked_here m M l s t A B ∙ n, no_round, lt-leb LINKS (length r.links) (omega (arith, links_counted m M l s t A B)))
 
-  module _ (h : live m < 67584) where
+  pub goes_back : backward r l.from l.to ≡ true
+  goes_back = backward_seats m R l.from l.to s t A B ∙ lt-ltb _ _ w
+
+  -- settled, and the link put in, whatever the number of links
+  module _ (h : live m < ENTRIES) where
     abbrev m₂ : List ℕ
     m₂ = settled m₁
 
@@ -109,32 +119,35 @@ module _ (m : List ℕ) (R : Ready m) (o : once (edges m) ≡ true) (i : pending
     m₃ = inserted m₂ x
 
     S : Settled m m₂ s t
-    S = row_settles m m₁ s t R A.in_use B.in_use w P
+    unfolding Settles
+    S = row_settles m₁ m₂ refl m s t R A.in_use B.in_use w P
 
-    law : Tabled m₃ × (edges m₃ ≡ edges m₂ ++ x ∷ [])
-    law = inserts m₂ x S.tabled (let c = (counts m R.tabled).0 in let e = ap length S.same_edges in omega arith)
-        (used_below m R.stands s A.in_use) (used_below m R.stands t B.in_use)
+    abbrev both_columns : List Column
+    both_columns = (SLOTS ∷ SEATS ∷ search_columns) ++ link_columns
+
+    wrote : Writes both_columns m m₃
+    wrote = then both_columns link_columns m m₂ m₃ refl (inserted_writes m₂ x) (less both_columns (SLOTS ∷ SEATS ∷ search_columns) m m₂ refl S.wrote)
+
+    D : SameRow m₂ m₃
+    D = same_row link_columns m₂ m₃ (inserted_writes m₂ x) refl
+
+    ids_are : cell m₃ IDS ≡ cell m IDS
+    ids_are = λ t u. wrote.others IDS u refl t
 
     edges_are : edges m₃ ≡ with_link (slot_board m) s t
-    edges_are = law.1 ∙ ap (λ (es : List Link). es ++ x ∷ []) S.same_edges
-
-    only : Only m₂ m₃
-    only = (writes_only m₂).0 x
-
-    abbrev D : (Stands m₂ → Stands m₃) × (cards m₃ ≡ cards m₂) × (row_of m₃ ≡ row_of m₂) × ((u : ℕ) → used m₃ u ≡ used m₂ u)
-    D = depends m₂ m₃ (links_same m₂ m₃ only)
-
-    same_ids : (j : ℕ) → cell m₃ ids j ≡ cell m ids j
-    same_ids j = (links_same m₂ m₃ only).same_ids j ∙ S.same_ids j
+    edges_are =
+        inserts_edges m₂ x S.is_table (let c = counts m R.is_table in let e = ap length S.same_edges in omega arith) (used_below m R.is_row s A.in_use)
+        (used_below m R.is_row t B.in_use)
+        ∙ ap (λ (es : List Link). es ++ x ∷ []) S.same_edges
 
     every_used : every (used m) (row_of m₂) ≡ true
-    every_used = every_more (used m₂) (used m) (λ u e. sym (S.same_used u) ∙ e) (row_of m₂) (row_used m₂ S.stands)
+    every_used = every_more (used m₂) (used m) (λ u e. sym (S.same_used u) ∙ e) (row_of m₂) (row_used m₂ S.is_row)
 
     abbrev pub new : List ℕ
-    new = map (cell m ids) (row_of m₂)
+    new = map (cell m IDS) (row_of m₂)
 
     pub new_cards : cards m₃ ≡ new
-    new_cards = D.1 ∙ cards_named m₂ ∙ map_same (cell m₂ ids) (cell m ids) S.same_ids (row_of m₂)
+    new_cards = ap₂ (λ (f : ℕ → ℕ) (xs : List ℕ). map f xs) ids_are D.same_row
 
     pub is_firm : firm r l.from l.to new ≡ true
     is_firm =
@@ -146,78 +159,41 @@ module _ (m : List ℕ) (R : Ready m) (o : once (edges m) ≡ true) (i : pending
         ap₂ (λ (p q : ℕ). keeps new (with_link r p q)) (sym A.card) (sym B.card)
         ∙ (names m R).keeps_with_link_named s t (row_of m₂) A.in_use B.in_use every_used ∙ S.keeps_links
 
-    length_row_of : (k : List ℕ) → length (row_of k) ≡ count k
-    length_row_of k = length-map-range_with_len (cell k slots) 0 (count k)
+    pub same_count : count m₃ ≡ count m
+    same_count = wrote.others COUNT 0 refl
 
     pub as_long : length new ≡ length r.row
     as_long =
-        length-map (row_of m₂) (cell m ids) ∙ length_row_of m₂ ∙ S.same_tally 0 ∙ sym (length-map (row_of m) (cell m ids) ∙ length_row_of m)
+        length-map (row_of m₂) (cell m IDS) ∙ length_slots m₂ S.is_row ∙ S.wrote.others COUNT 0 refl
+        ∙ sym (length-map (row_of m) (cell m IDS) ∙ length_slots m R.is_row)
 
-    pub goes_back : backward r l.from l.to ≡ true
-    goes_back = backward_is m R l.from l.to s t A B ∙ backward_places m R l.from l.to s t A B ∙ lt-ltb low high w
+    abbrev after : Board
+    after = record { row = row_of m₂; links = with_link (slot_board m) s t }
 
-    fine_after : fine (slot_board m₃) ≡ true
+    fine_after : fine after ≡ true
     unfolding must_be link_must_be
     fine_after =
         let b = slot_board m in
-        let bk : backward b s t ≡ true = sym (backward_is m R l.from l.to s t A B) ∙ goes_back in
-        let f = open_stays b R.fine_so s t (has_slot m R.stands s A.in_use, has_slot m R.stands t B.in_use) (row_of m₂) (must_may b (Links x) (row_of m₂) (rw bk S.is_firm)) S.keeps_links in
-        subst (λ (ls : List Link). fine (record { row = row_of m₃; links = ls }) ≡ true) (sym edges_are)
-        (subst (λ (xs : List ℕ). fine (record { row = xs; links = with_link b s t }) ≡ true) (sym D.2) f)
+        let bk : backward b s t ≡ true = sym (order_slots m R.is_row t s B.in_use A.in_use) ∙ lt-ltb _ _ w in
+        open_stays b R.fine_so s t (has_slot m R.is_row s A.in_use, has_slot m R.is_row t B.in_use) (row_of m₂) (must_may b (Links x) (row_of m₂) (rw bk S.is_firm)) S.keeps_links
 
-    pub Q : Ready m₃
-    Q =
-        let u = links_unmarked m₂ m₃ only in
-        let a = cells_alone m₂ m₃ fore u.same_fore in
-        let b = cells_alone m₂ m₃ hind u.same_hind in
-        let e = u.as_long in
-        let e₂ = S.as_long in
-        record {
-          stands = D.0 S.stands;
-          tabled = law.0;
-          fore_summed = a.1 (let z = S.unmarked.fore_summed.lies in omega arith) S.unmarked.fore_summed;
-          hind_summed = b.1 (let z = S.unmarked.hind_summed.lies in omega arith) S.unmarked.hind_summed;
-          fore_none = λ p. a.0 p ∙ S.unmarked.fore_none p;
-          hind_none = λ p. b.0 p ∙ S.unmarked.hind_none p;
-          via_room = let z = R.via_room in omega arith;
-          fine_so = fine_after;
-        }
-
-    abbrev board : Board
+    abbrev pub board : Board
     board = record { row = new; links = with_link r l.from l.to }
 
-    board_after : board ≡ card_board m₃
-    board_after =
-        let a : new ≡ (card_board m₃).row = sym new_cards ∙ cards_named m₃ in
-        let b : with_link r l.from l.to ≡ (card_board m₃).links =
-        ap₂ (λ (p q : ℕ). with_link r p q) (sym A.card) (sym B.card) ∙ (names m R).with_link_named s t
-        ∙ sym (all_named (cell m ids) (cell m₃ ids) same_ids (with_link (slot_board m) s t))
-        ∙ ap (map (named (cell m₃ ids))) (sym edges_are) in
-        ap₂ (λ (xs : List ℕ) (ls : List Link). record { row = xs; links = ls }) a b
-
-    once_after : once (edges m₃) ≡ true
-    once_after = ap once edges_are ∙ stays_once.1 (edges m) x o n
+    named_so : board ≡ renamed (cell m₃ IDS) after
+    named_so =
+        board_of refl (ap₂ (λ (p q : ℕ). with_link r p q) (sym A.card) (sym B.card) ∙ (names m R).with_link_named s t)
+        ∙ ap (λ (f : ℕ → ℕ). renamed f after) (sym ids_are)
 
     pub moved_means : Means m₃ board
-    moved_means = record {
-      ready = Q;
-      single = once_after;
-      idle = only.tallies 4 (λ z. omega arith) (λ z. omega arith) ∙ S.same_tally 4 ∙ i;
-      is = board_after;
-    }
+    unfolding StaysOnce
+    moved_means =
+        means_by both_columns m m₃ wrote refl M (D.is_row S.is_row) (inserts_table m₂ x S.is_table)
+        (unmarked_kept link_columns m₂ m₃ (inserted_writes m₂ x) refl S.unmarked) after (board_of D.same_row edges_are) fine_after
+        (stays_once.1 (edges m) x M.single n) board named_so
 
     -- the memory at the end, with nothing but the keeper's own numbers changed
     pub at_end : (k : List ℕ) → Noted m₃ k → Means (leaves_pending k 0) board
-    at_end k N = subst (Means (leaves_pending k 0)) (sym board_after) (settles m₃ k Q once_after N)
-
-    pub place_low : place r.row l.to ≡ low
-    place_low = ap (place r.row) (sym B.card) ∙ (names m R).place_named t B.in_use ∙ place_slot m R.stands t B.in_use
-
-    pub place_high : place r.row l.from ≡ high
-    place_high = ap (place r.row) (sym A.card) ∙ (names m R).place_named s A.in_use ∙ place_slot m R.stands s A.in_use
-
-    pub same_count : count m₃ ≡ count m
-    same_count = only.tallies 0 (λ z. omega arith) (λ z. omega arith) ∙ S.same_tally 0
-
-    pub bounds : (high < count m) × (count m ≤ 8192)
-    bounds = let f = R.stands.stands.few in let q = R.stands.stands.room in ((used_place m R.stands s A.in_use).0, omega arith)
+    at_end k N =
+        let Q = moved_means in
+        subst (Means (leaves_pending k 0)) (sym Q.is) (settles m₃ k Q.ready Q.single Q.long N)

@@ -7,6 +7,8 @@ use Rattle.order.specs.declared.board.Refusal.{Refusal}
 use Rattle.order.specs.declared.board.Refusal.TheVariants.{Missing, Exists, Cycle, Full}
 use Rattle.order.specs.Reordering.{number}
 use Rattle.command.specs.Commands.{Told, after}
+use Rattle.memory.specs.declared.column.TheConstants.{MEMORY}
+use Rattle.keeper.specs.declared.layout.TheConstants.{OUTPUT, TOLD}
 use Rattle.keeper.specs.declared.event.Event.{Event}
 use Rattle.keeper.specs.declared.event.Event.TheVariants.{Said, Next}
 use Rattle.keeper.specs.declared.event.Reason.{Reason}
@@ -89,7 +91,7 @@ module _ (go : Go) (on : List ℕ → List ℕ → ℕ → Ending) (ts : List To
   pub act_agrees : ((ts₁ : List Told) (ss₁ : List (List ℕ)) (s₁ : ℕ) → Agrees (go m ts₁ ss₁) (on m out s₁)) →
       (a : Result Act Reason) (ks : List ℕ) → Agrees (one_act go ts ss m (action_of a ks)) (by_act on m out s a)
   unfolding one_act by_act
-  act_agrees h (Ok (Tells p n)) ks = elim (cases_Bool (leb (length (take n ks)) 4096)) [
+  act_agrees h (Ok (Tells p n)) ks = elim (cases_Bool (leb (length (take n ks)) TOLD)) [
     | inl t ↦ rw t (h _ ss s)
     | inr t ↦ rw t (neither 1001 _ _ _ (λ z. omega arith) (high 1001 (omega arith)))
   ]
@@ -97,16 +99,16 @@ module _ (go : Go) (on : List ℕ → List ℕ → ℕ → Ending) (ts : List To
   act_agrees h (Ok Done) ks = ((λ _. (refl, refl)), λ w z. absurd (omega (arith, (three_up w).0)))
   act_agrees h (Err e) ks = refused_agrees e ks
 
-stepped_fits : (m : List ℕ) (ev : Event) (out : List ℕ) → length m ≡ 524288 → 8192 ≤ length out →
+stepped_fits : (m : List ℕ) (ev : Event) (out : List ℕ) → length m ≡ MEMORY → OUTPUT ≤ length out →
     stepped PassedOver m ev out
     ≡ record { act = (answer m ev).act; memory = (answer m ev).memory; out = fronted (as_told PassedOver (answer m ev)).numbers out }
 unfolding stepped
 stepped_fits m ev out l o = let f : step_fits m out ≡ true = grind (arith, tests) in rw f
 
-pub long_fronted : (ks out : List ℕ) → 8192 ≤ length out → 8192 ≤ length (fronted ks out)
+pub long_fronted : (ks out : List ℕ) → OUTPUT ≤ length out → OUTPUT ≤ length (fronted ks out)
 long_fronted ks out o = omega (arith, length-append ks (drop (length ks) out), length-drop (length ks) out)
 
-run_agrees : (n : ℕ) (m : List ℕ) (ev : Event) (out : List ℕ) (ts : List Told) (ss : List (List ℕ)) (s : ℕ) → length m ≡ 524288 → 8192 ≤ length out →
+run_agrees : (n : ℕ) (m : List ℕ) (ev : Event) (out : List ℕ) (ts : List Told) (ss : List (List ℕ)) (s : ℕ) → length m ≡ MEMORY → OUTPUT ≤ length out →
     small_event ev ≡ true → Agrees (runs n own m ev ts ss) (plays n m ev out s)
 unfolding runs plays small_event
 run_agrees zero m ev out ts ss s l o q = neither 1000 _ _ _ (λ z. omega arith) (high 1000 (omega arith))
@@ -120,7 +122,7 @@ run_agrees (suc n) m ev out ts ss s l o q =
 pub plays_right : Plays
 unfolding DoneFirm RefusedSo small_event
 plays_right m r c out l a M f sm o =
-    let k = kept m r c (l ∙ sym (length-replicate {A = ℕ} 524288 0)) a M f sm in
+    let k = kept m r c (l ∙ sym (length-replicate {A = ℕ} MEMORY 0)) a M f sm in
     let g = run_agrees 3 m (Said c) out [] [] 0 l o sm in (
       (λ z.
           let d = k.0 z in

@@ -1,56 +1,55 @@
 -- No answer has more numbers than the output has room for.
-use Rattle.std.proofs.Common.{◌≡◌, ℕ, ◌≤◌, ◌+◌, ◌-◌, min, ◌++◌, eqb, ltb, leb, List, length, take, drop, sym, ap, ◌∙◌, arith, length-take}
+use Rattle.std.proofs.Common.{◌≡◌, ℕ, ◌≤◌, ◌+◌, ◌-◌, ◌^◌, min, ◌++◌, eqb, ltb, leb, List, length, take, drop, sym, ap, ◌∙◌, arith}
 use lib.ListN.{length-map}
 use Rattle.std.proofs.lemmas.List.{append_assoc, take-append-drop, drop-append-le, length-take-le}
+use Rattle.order.specs.declared.board.TheConstants.{CARDS, LINKS}
+use Rattle.order.specs.declared.board.Link.{Link}
 use Rattle.command.specs.declared.command.Command.{Command}
 use Rattle.command.specs.declared.command.Command.TheVariants.{Comes, Goes, Link as Links, Unlink as Unlinks, Places}
-use Rattle.order.specs.declared.board.Link.{Link}
 use Rattle.memory.specs.Columns.{cell}
-use Rattle.row.specs.Layout.{tally, ids, slots, places}
-use Rattle.row.specs.Moves.{place_found}
 use Rattle.memory.proofs.Options.{given_holds}
-use Rattle.links.specs.Entries.{found as entry_found}
-use Rattle.links.specs.Layout.{live}
-use Rattle.links.specs.Building.{inserted}
-use Rattle.search.specs.Layout.{via}
+use Rattle.row.specs.declared.layout.TheConstants.{IDS, SEATS}
+use Rattle.row.specs.Meaning.{place_at}
+use Rattle.row.specs.Moves.{place_found}
+use Rattle.links.specs.Entries.{live, found as entry_found, inserted}
+use Rattle.search.specs.declared.layout.TheConstants.{VIA}
 use Rattle.search.specs.Hunt.{meeting}
 use Rattle.search.specs.Settle.{settled}
 use Rattle.search.specs.Way.{way}
-use Rattle.search.proofs.Joining.{way_few}
+use Rattle.keeper.specs.declared.layout.TheConstants.{OUTPUT, TOLD, MORE_FROM, MORE_TO}
 use Rattle.keeper.specs.declared.event.Event.{Event}
 use Rattle.keeper.specs.declared.event.Event.TheVariants.{Said, Next}
 use Rattle.keeper.specs.Answers.{Answer, pending}
-use Rattle.keeper.specs.Telling.{middle, told_part}
+use Rattle.keeper.specs.Telling.{end_at, told_part}
 use Rattle.keeper.specs.Reordering.{round_cards, shown_round, moved, reordered}
 use Rattle.keeper.specs.Linking.{slots_found, linked}
 use Rattle.keeper.specs.Own.{shown_places, said, went_on, answer}
+use Rattle.keeper.proofs.TellingParts.{length_middle}
 use Rattle.keeper.proofs.OwnSize.{Any}
 use Rattle.keeper.proofs.Size.{cond_holds}
+use Rattle.search.proofs.Joining.{way_few}
 
 abbrev pub Few : Answer → Type 0
-Few a = length a.numbers ≤ 8192
+Few a = length a.numbers ≤ OUTPUT
 
 few_told : (m : List ℕ) (i j : ℕ) → Few (told_part m i j)
-unfolding told_part middle
-few_told m i j =
-    let n = min (min j 8192 - min i 8192) 4096 in
-    let xs = drop (slots.base + min i 8192) m in
-    omega (arith, length-map (take n xs) (cell m ids), length-take n xs)
+unfolding told_part
+few_told m i j = let e = end_at m j in omega (arith, length_middle m (min i e) (min (e - min i e) TOLD))
 
 few_round : (m : List ℕ) (x y : Link) → Few (shown_round m x y)
 unfolding shown_round round_cards
-few_round m x y = omega (arith, length-map (way (cell m via) 8192 x y) (cell m ids), way_few (cell m via) 8192 x y)
+few_round m x y = omega (arith, length-map (way (cell m VIA) CARDS x y) (cell m IDS), way_few (cell m VIA) CARDS x y)
 
-few_moved : (m : List ℕ) (x : Link) (i j : ℕ) → Few (moved m x i j)
+few_moved : (m : List ℕ) (x : Link) → Few (moved m x)
 unfolding moved
-few_moved m x i j =
-    cond_holds Few (leb 65536 (live m)) _ _ (omega arith) (few_told (inserted (settled m) x) i (min (j + 1) 18446744073709551615))
+few_moved m x =
+    cond_holds Few (leb LINKS (live m)) _ _ (omega arith)
+    (few_told (inserted (settled m) x) (place_at m x.to) (min (place_at m x.from + 1) (2 ^ 64 - 1)))
 
 few_reordered : (m : List ℕ) (x : Link) → Few (reordered m x)
 unfolding reordered
 few_reordered m x =
-    given_holds Any Few (meeting m x).answer _ _ tt (few_moved (meeting m x).memory x (cell m places x.to) (cell m places x.from))
-    (λ y _. few_round (meeting m x).memory x y)
+    given_holds Any Few (meeting m x).answer _ _ tt (few_moved (meeting m x).memory x) (λ y _. few_round (meeting m x).memory x y)
 
 few_linked : (m : List ℕ) (l : Link) → Few (linked m l)
 unfolding linked
@@ -58,7 +57,7 @@ few_linked m l =
     given_holds Any Few (slots_found m l) _ _ tt (omega arith) (λ x _.
     given_holds Any Few (entry_found m x) _ _ tt
     (cond_holds Few (eqb x.from x.to) _ _ (omega arith)
-    (cond_holds Few (ltb (cell m places x.to) (cell m places x.from)) _ _ (few_reordered m x) (omega arith)))
+    (cond_holds Few (ltb (cell m SEATS x.to) (cell m SEATS x.from)) _ _ (few_reordered m x) (omega arith)))
     (λ e _. omega arith))
 
 few_places : (m : List ℕ) (a b : ℕ) → Few (shown_places m a b)
@@ -76,7 +75,7 @@ few_said m (Places a b) = few_places m a b
 
 few_on : (m : List ℕ) → Few (went_on m)
 unfolding went_on
-few_on m = cond_holds Few (eqb (pending m) 3) _ _ (few_told m (cell m tally 5) (cell m tally 6)) (omega arith)
+few_on m = cond_holds Few (eqb (pending m) 3) _ _ (few_told m (cell m MORE_FROM 0) (cell m MORE_TO 0)) (omega arith)
 
 pub few_answer : (m : List ℕ) (ev : Event) → Few (answer m ev)
 unfolding answer

@@ -2,6 +2,7 @@
 use Rattle.std.proofs.Common.{◌≡◌, ℕ, suc, ◌<◌, ◌≤◌, List, [], ◌∷◌, ◌++◌, length, ◌∙◌, arith}
 use Rattle.std.proofs.lemmas.Bool.Decides.{nat_tests as tests}
 use Rattle.command.specs.Commands.{Told}
+use Rattle.keeper.specs.declared.layout.TheConstants.{TOLD}
 use Rattle.keeper.specs.declared.event.Event.{Event}
 use Rattle.keeper.specs.declared.event.Event.TheVariants.{Next}
 use Rattle.keeper.specs.Engine.{Action, tells, shows, done, refused, Step, Engine, ran, one_act, runs}
@@ -25,7 +26,7 @@ module _ (n : ℕ) (e : Engine) (m m₁ : List ℕ) (ev : Event) (ts : List Told
   unfolding runs one_act
   run_shows ks h = rw h
 
-  pub run_tells : (i : ℕ) (ks : List ℕ) → length ks ≤ 4096 → e.step m ev ≡ steps_to m₁ (tells i ks) →
+  pub run_tells : (i : ℕ) (ks : List ℕ) → length ks ≤ TOLD → e.step m ev ≡ steps_to m₁ (tells i ks) →
       runs (suc n) e m ev ts ss ≡ runs n e m₁ Next (ts ++ told i ks ∷ []) ss
   unfolding runs one_act
   run_tells i ks l h = rw h (grind (arith, tests))
@@ -44,11 +45,11 @@ module _ (e : Engine) (m m₁ m₂ : List ℕ) (ev : Event) (ks : List ℕ) (h :
   pub shows_refused : (k : ℕ) → 1 ≤ k → k < 1000 → e.step m₁ Next ≡ steps_to m₂ (refused k) → runs 3 e m ev [] [] ≡ ran m₂ [] (ks ∷ []) k
   shows_refused k l u g = run_shows 2 e m m₁ ev [] [] ks h ∙ run_refused 1 e m₁ m₂ Next [] (ks ∷ []) k l u g
 
-module _ (e : Engine) (m m₁ m₂ : List ℕ) (ev : Event) (i : ℕ) (ks : List ℕ) (l : length ks ≤ 4096) (h : e.step m ev ≡ steps_to m₁ (tells i ks)) where
+module _ (e : Engine) (m m₁ m₂ : List ℕ) (ev : Event) (i : ℕ) (ks : List ℕ) (l : length ks ≤ TOLD) (h : e.step m ev ≡ steps_to m₁ (tells i ks)) where
   pub tells_done : e.step m₁ Next ≡ steps_to m₂ done → runs 3 e m ev [] [] ≡ ran m₂ (told i ks ∷ []) [] 0
   tells_done g = run_tells 2 e m m₁ ev [] [] i ks l h ∙ run_done 1 e m₁ m₂ Next (told i ks ∷ []) [] g
 
-  pub tells_tells_done : (m₃ : List ℕ) (j : ℕ) (js : List ℕ) → length js ≤ 4096 →
+  pub tells_tells_done : (m₃ : List ℕ) (j : ℕ) (js : List ℕ) → length js ≤ TOLD →
       e.step m₁ Next ≡ steps_to m₂ (tells j js) → e.step m₂ Next ≡ steps_to m₃ done →
       runs 3 e m ev [] [] ≡ ran m₃ (told i ks ∷ told j js ∷ []) [] 0
   tells_tells_done m₃ j js u g f =

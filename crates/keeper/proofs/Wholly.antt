@@ -1,28 +1,31 @@
 -- THE THEOREM: the keeper's engine meets the promise, and its firmer sister within three steps.
-use Rattle.std.proofs.Common.{◌≡◌, ℕ, ◌+◌, ◌≤◌, true, false, List, [], map, length, replicate, sym, refl, ap, subst, ap₂, arith}
+use Rattle.std.proofs.Common.{◌≡◌, ℕ, ◌+◌, ◌≤◌, true, List, [], ◌∷◌, map, length, replicate, sym, refl, ap, ap₂, subst, arith}
 use lib.ListN.{length-replicate}
 use Rattle.order.specs.declared.board.Link.{Link}
-use Rattle.command.specs.declared.command.Command.{Command}
-use Rattle.command.specs.declared.command.Command.TheVariants.{Comes, Goes, Link as Links, Unlink as Unlinks, Places}
 use Rattle.order.specs.Lists.{every, distinct}
 use Rattle.order.specs.Board.{Board, fine}
-use Rattle.memory.specs.Columns.{cell}
-use Rattle.row.specs.Layout.{tally, ids, slots, count}
-use Rattle.row.specs.Meaning.{row_of, Stands}
 use Rattle.order.specs.Renaming.{renamed}
-use Rattle.std.specs.List.{range_with_len}
+use Rattle.command.specs.declared.command.Command.{Command}
+use Rattle.command.specs.declared.command.Command.TheVariants.{Comes, Goes, Link as Links, Unlink as Unlinks, Places}
+use Rattle.memory.specs.declared.column.TheConstants.{MEMORY}
+use Rattle.memory.specs.Columns.{cell}
+use Rattle.row.specs.declared.layout.TheConstants.{IDS}
+use Rattle.row.specs.Meaning.{row_of, cards, IsRow}
 use Rattle.row.proofs.Beginning.{begins, cell_zeros}
-use Rattle.links.specs.Meaning.{edges, once, Tabled}
-use Rattle.links.proofs.Emptying.{tabled_zeros}
-use Rattle.search.specs.Layout.{fore, hind, via}
-use Rattle.memory.specs.PlaceSets.{marked}
-use Rattle.memory.specs.PlaceSetLaws.{Summed}
+use Rattle.links.specs.Table.{edges, once, IsTable}
+use Rattle.links.specs.Laws.{Begins}
+use Rattle.links.proofs.Beginning.{begins as links_begin}
+use Rattle.search.specs.Columns.{FreshMemory}
+use Rattle.search.specs.Meaning.{slot_board}
+use Rattle.search.specs.SettleLaws.{Unmarked}
+use Rattle.search.proofs.Zeros.{fresh_memory}
+use Rattle.keeper.specs.declared.layout.TheConstants.{PENDING, MORE_TO}
 use Rattle.keeper.specs.Answers.{pending}
-use Rattle.search.proofs.Fresh.{fresh_memory}
 use Rattle.keeper.specs.Promise.{empty, Whole, small_command}
 use Rattle.keeper.specs.Sister.{WholeIn}
 use Rattle.keeper.specs.Own.{own}
 use Rattle.keeper.specs.Meaning.{card_board, Means}
+use Rattle.keeper.proofs.Carrying.{ready_of, board_of}
 use Rattle.keeper.proofs.Simulation.{StepKept, Kept, whole_in, soon_is_more}
 use Rattle.keeper.proofs.OwnSize.{own_steady}
 use Rattle.keeper.proofs.CardsCome.{comes_means}
@@ -32,52 +35,46 @@ use Rattle.keeper.proofs.Unlinking.{unlinks_means}
 use Rattle.keeper.proofs.ToldParts.{links_means}
 
 -- each command, from the board that the memory means on
-each : (m : List ℕ) (c : Command) (r : Board) (M : Means m r) → small_command c ≡ true → StepKept own 3 Means m (card_board m) c
-each m (Comes k) r M sm = comes_means m M.ready M.single M.idle k sm
-each m (Goes k) r M sm = goes_means m M.ready M.single M.idle k sm
-each m (Links l) r M sm = links_means m M.ready M.single M.idle l sm
-each m (Unlinks l) r M sm = unlinks_means m M.ready M.single M.idle l sm
-each m (Places a b) r M sm = places_means m M.ready M.single M.idle a b sm
+each : (m : List ℕ) (c : Command) → Means m (card_board m) → small_command c ≡ true → StepKept own 3 Means m (card_board m) c
+each m (Comes k) M sm = comes_means m M k sm
+each m (Goes k) M sm = goes_means m M k sm
+each m (Links l) M sm = links_means m M l sm
+each m (Unlinks l) M sm = unlinks_means m M l sm
+each m (Places a b) M sm = places_means m M a b sm
 
 pub kept : Kept own 3 Means
-kept m r c l a M f sm = subst (λ (x : Board). StepKept own 3 Means m x c) (sym M.is) (each m c r M sm)
+kept m r c l a M f sm = subst (λ (x : Board). StepKept own 3 Means m x c) (sym M.is) (each m c (subst (Means m) M.is M) sm)
 
 -- a memory with no cards and no links means the empty board
-module _ (m : List ℕ) (S : Stands m) (T : Tabled m) (f : Summed m fore) (h : Summed m hind) (a : (p : ℕ) → marked m fore p ≡ false)
-    (b : (p : ℕ) → marked m hind p ≡ false) (room : via.base + via.size ≤ length m) (z : count m ≡ 0) (none : edges m ≡ []) (p : pending m ≡ 0) where
-  no_slots : row_of m ≡ []
-  no_slots = ap (λ (k : ℕ). map (cell m slots) (range_with_len 0 k)) z
+module _ (m : List ℕ) (r : IsRow m) (t : IsTable m) (u : Unmarked m) (l : MORE_TO.base + MORE_TO.size ≤ length m) (z : row_of m ≡ []) (none : edges m ≡ [])
+    (p : pending m ≡ 0) where
+  is_empty : slot_board m ≡ empty
+  is_empty = board_of z none
 
   pub empty_means : Means m empty
   unfolding every distinct once
   empty_means = record {
-    ready = record {
-      stands = S;
-      tabled = T;
-      fore_summed = f;
-      hind_summed = h;
-      fore_none = a;
-      hind_none = b;
-      via_room = room;
-      fine_so = subst (λ (r : Board). fine r ≡ true) (sym (ap₂ (λ (xs : List ℕ) (ls : List Link). record { row = xs; links = ls }) no_slots none)) refl;
-    };
+    ready = ready_of m r t u (subst (λ (b : Board). fine b ≡ true) (sym is_empty) refl);
     single = ap once none;
+    long = l;
     idle = p;
-    is = sym (ap₂ (λ (xs : List ℕ) (ls : List Link). renamed (cell m ids) (record { row = xs; links = ls })) no_slots none);
+    is = ap (renamed (cell m IDS)) (sym is_empty);
   }
 
 -- so zeros do
-room_at : (n : ℕ) → via.base + via.size ≤ n → via.base + via.size ≤ length {A = ℕ} (replicate n 0)
-room_at n h = omega (arith, length-replicate {A = ℕ} n 0)
+no_slots : (f : ℕ → ℕ) (xs : List ℕ) → map f xs ≡ [] → xs ≡ []
+no_slots f [] e = refl
+no_slots f (x ∷ xs) e = cc
 
-room_there : via.base + via.size ≤ length {A = ℕ} (replicate 524288 0)
-room_there = room_at 524288 (omega arith)
+long_at : (n : ℕ) → MORE_TO.base + MORE_TO.size ≤ n → MORE_TO.base + MORE_TO.size ≤ length {A = ℕ} (replicate n 0)
+long_at n h = omega (arith, length-replicate {A = ℕ} n 0)
 
-pub at_start : Means (replicate 524288 0) empty
+pub at_start : Means (replicate MEMORY 0) empty
+unfolding Begins FreshMemory
 at_start =
-    let t = tabled_zeros 524288 (omega arith) in
-    let s = fresh_memory in
-    empty_means (replicate 524288 0) begins.0 t.0 s.0 s.1 s.2 s.3 room_there (cell_zeros 524288 tally 0) t.1 (cell_zeros 524288 tally 4)
+    let f = fresh_memory in
+    empty_means (replicate MEMORY 0) begins.0 links_begin.1 (record { fore_summed = f.0; hind_summed = f.1; fore_none = f.2; hind_none = f.3 })
+    (long_at MEMORY (omega arith)) (no_slots (cell (replicate MEMORY 0) IDS) (row_of (replicate MEMORY 0)) begins.1) links_begin.2 (cell_zeros MEMORY PENDING 0)
 
 pub whole_in_own : WholeIn 3 own
 whole_in_own = whole_in own 3 Means own_steady kept at_start

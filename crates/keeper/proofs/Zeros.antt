@@ -3,6 +3,7 @@ use Rattle.std.proofs.Common.{◌≡◌, ℕ, zero, suc, ◌≤◌, Bool, true, 
 use lib.ListN.{length-replicate}
 use Rattle.std.proofs.lemmas.Bool.{and_from}
 use Rattle.order.specs.Lists.{every}
+use Rattle.memory.specs.declared.column.TheConstants.{MEMORY}
 use Rattle.keeper.specs.declared.event.Event.{Event}
 use Rattle.keeper.specs.Engine.{Step}
 use Rattle.keeper.specs.Promise.{Steady}
@@ -14,14 +15,14 @@ unfolding every
 every_replicate f zero v h = refl
 every_replicate f (suc n) v h = and_from _ _ h (every_replicate f n v h)
 
-pub steady_from : (n : ℕ) (f : List ℕ → Event → Step) → n ≤ 524288 →
+pub steady_from : (n : ℕ) (f : List ℕ → Event → Step) → n ≤ MEMORY →
     ((m : List ℕ) (ev : Event) → small_event ev ≡ true → KeepsSize m (f m ev).memory) → Steady (record { start = replicate n 0; step = guarded f })
 unfolding Steady
 steady_from n f l k = (omega (arith, length-replicate {A = ℕ} n 0), every_replicate (λ m. eqb m 0) n 0 refl, guarded_keeps f k)
 
-pub zeros_long : length {A = ℕ} (replicate 524288 0) ≡ 524288
-zeros_long = length-replicate {A = ℕ} 524288 0
+pub zeros_long : length {A = ℕ} (replicate MEMORY 0) ≡ MEMORY
+zeros_long = length-replicate {A = ℕ} MEMORY 0
 
 pub steady_zeros : (f : List ℕ → Event → Step) → ((m : List ℕ) (ev : Event) → small_event ev ≡ true → KeepsSize m (f m ev).memory) →
-    Steady (record { start = replicate 524288 0; step = guarded f })
-steady_zeros f k = steady_from 524288 f (omega arith) k
+    Steady (record { start = replicate MEMORY 0; step = guarded f })
+steady_zeros f k = steady_from MEMORY f (omega arith) k

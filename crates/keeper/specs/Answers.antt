@@ -16,7 +16,7 @@
 use Rattle.std.specs.Prelude.{◌≡◌, ℕ, cond, List, [], ◌++◌, length, drop, Some, None, Option, Ok, Err, Result, ◌==◌}
 use Rattle.order.specs.declared.board.Refusal.{Refusal}
 use Rattle.memory.specs.Columns.{cell, written}
-use Rattle.row.specs.Layout.{tally}
+use Rattle.keeper.specs.declared.layout.TheConstants.{PENDING, MORE_FROM, MORE_TO}
 use Rattle.keeper.specs.declared.event.Reason.TheVariants.{Board}
 use Rattle.keeper.specs.declared.event.Act.{Act}
 use Rattle.keeper.specs.declared.event.Act.TheVariants.{Tells, Shows, Done as ActDone}
@@ -64,23 +64,23 @@ abbrev pub refuses : List ℕ → Refusal → Ended
 refuses m e = ends (Err (Board e)) m
 
 abbrev pub pending : List ℕ → ℕ
-pending m = cell m tally 4
+pending m = cell m PENDING 0
 
 abbrev pub leaves_pending : List ℕ → ℕ → List ℕ
-leaves_pending m k = written m tally 4 k
+leaves_pending m k = written m PENDING 0 k
 
 unfoldable pub still_to_come : List ℕ → Option Pending
 still_to_come m =
     cond (pending m == 0) (Some Nothing)
     (cond (pending m == 1) (Some Done)
     (cond (pending m == 2) (Some Round)
-    (cond (pending m == 3) (Some (More (cell m tally 5) (cell m tally 6))) None)))
+    (cond (pending m == 3) (Some (More (cell m MORE_FROM 0) (cell m MORE_TO 0))) None)))
 
 abbrev pub noted : List ℕ → Pending → List ℕ
 noted m Nothing = leaves_pending m 0
 noted m Done = leaves_pending m 1
 noted m Round = leaves_pending m 2
-noted m (More i j) = written (written (leaves_pending m 3) tally 5 i) tally 6 j
+noted m (More i j) = written (written (leaves_pending m 3) MORE_FROM 0 i) MORE_TO 0 j
 
 abbrev pub by_result : {X : Type 0} → Result ℕ Refusal → (ℕ → X) → (Refusal → X) → X
 by_result (Ok s) f g = f s

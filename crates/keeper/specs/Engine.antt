@@ -13,6 +13,7 @@ use Rattle.std.specs.Prelude.{ℕ, zero, suc, cond, ◌&&◌, List, [], ◌∷�
 use Rattle.command.specs.declared.command.Command.{Command}
 use Rattle.order.specs.Reordering.{number}
 use Rattle.command.specs.Commands.{Told}
+use Rattle.keeper.specs.declared.layout.TheConstants.{TOLD}
 use Rattle.keeper.specs.declared.event.Event.{Event}
 use Rattle.keeper.specs.declared.event.Event.TheVariants.{Said, Next}
 use Rattle.keeper.specs.declared.event.Reason.{Reason}
@@ -56,7 +57,7 @@ abbrev pub ran : List ℕ → List Told → List (List ℕ) → ℕ → Ran
 ran m ts ss e = record { memory = m; told = ts; showed = ss; end = e }
 
 unfoldable pub one_act : (List ℕ → List Told → List (List ℕ) → Ran) → List Told → List (List ℕ) → List ℕ → Action → Ran
-one_act go ts ss m (tells i ks) = cond (nat_le (length ks) 4096) (go m (ts ++ record { at = i; cards = ks } ∷ []) ss) (ran m ts ss 1001)
+one_act go ts ss m (tells i ks) = cond (nat_le (length ks) TOLD) (go m (ts ++ record { at = i; cards = ks } ∷ []) ss) (ran m ts ss 1001)
 one_act go ts ss m (shows ks) = go m ts (ss ++ ks ∷ [])
 one_act go ts ss m done = ran m ts ss 0
 one_act go ts ss m (refused k) = ran m ts ss (cond (nat_le 1 k && nat_lt k 1000) k 1001)

@@ -1,3 +1,4 @@
+pub mod Columns
 pub mod Engine
 pub mod Promise
 pub mod Sister

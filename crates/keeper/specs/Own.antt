@@ -16,11 +16,12 @@ use Rattle.command.specs.declared.command.Command.{Command}
 use Rattle.command.specs.declared.command.Command.TheVariants.{Comes, Goes, Link as Links, Unlink as Unlinks, Places}
 use Rattle.order.specs.declared.board.Refusal.{Refusal}
 use Rattle.order.specs.declared.board.Refusal.TheVariants.{Missing, Cycle}
+use Rattle.memory.specs.declared.column.TheConstants.{MEMORY}
 use Rattle.memory.specs.Columns.{cell}
-use Rattle.row.specs.Layout.{tally}
 use Rattle.memory.specs.Options.{given}
 use Rattle.row.specs.Moves.{came, gone, place_found}
-use Rattle.links.specs.Removing.{removed_all}
+use Rattle.links.specs.Entries.{removed_all}
+use Rattle.keeper.specs.declared.layout.TheConstants.{OUTPUT, MORE_FROM, MORE_TO}
 use Rattle.keeper.specs.declared.event.Event.{Event}
 use Rattle.keeper.specs.declared.event.Event.TheVariants.{Said, Next}
 use Rattle.keeper.specs.declared.event.Reason.{Reason}
@@ -58,7 +59,7 @@ finished m =
     ends (cond (pending m == 1) (Ok Done) (cond (pending m == 2) (Err (Board Cycle)) (Err Idle))) (noted m Nothing)
 
 unfoldable pub went_on : List ℕ → Answer
-went_on m = cond (pending m == 3) (told_part m (cell m tally 5) (cell m tally 6)) (quiet (finished m))
+went_on m = cond (pending m == 3) (told_part m (cell m MORE_FROM 0) (cell m MORE_TO 0)) (quiet (finished m))
 
 unfoldable pub answer : List ℕ → Event → Answer
 answer m (Said c) = cond (pending m == 0) (said m c) (quiet (ends (Err Busy) m))
@@ -68,10 +69,10 @@ abbrev pub steps : List ℕ → Event → Step
 steps m ev = record { memory = (answer m ev).memory; action = action_of (answer m ev).act (answer m ev).numbers }
 
 abbrev pub own : Engine
-own = record { start = replicate 524288 0; step = guarded steps }
+own = record { start = replicate MEMORY 0; step = guarded steps }
 
 abbrev pub step_fits : List ℕ → List ℕ → Bool
-step_fits m out = length m == 524288 && nat_le 8192 (length out)
+step_fits m out = length m == MEMORY && nat_le OUTPUT (length out)
 
 -- the engine's step, told: the act with the numbers is its action, and the numbers stand at the front of the output
 pub record Taken (m : List ℕ) (ev : Event) (out₀ : List ℕ) (r : Result Act Reason) (m₁ out₁ : List ℕ) : Type 0 where

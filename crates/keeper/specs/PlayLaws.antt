@@ -7,16 +7,19 @@
 --   PlaysUnfit       where the memory or the output doesn't fit, the command is refused, and nothing is changed
 --   ReadsRow         the row that is read from a memory that means a board is the board's
 use Rattle.std.specs.Prelude.{◌≡◌, ℕ, ◌≤◌, true, false, List, ◌++◌, length, drop, Some, None, Ok, Err}
-use Rattle.memory.specs.declared.column.TheConstants.{MEMORY}
 use Rattle.command.specs.declared.command.Command.{Command}
 use Rattle.order.specs.declared.board.Refusal.{Refusal}
 use Rattle.order.specs.Board.{Board, fine, keeps}
 use Rattle.command.specs.Commands.{refusal, must_be, links_after}
+use Rattle.memory.specs.declared.column.TheConstants.{MEMORY}
+use Rattle.keeper.specs.declared.layout.TheConstants.{OUTPUT}
 use Rattle.keeper.specs.declared.event.Reason.TheVariants.{Unfit, Board as ByBoard}
 use Rattle.keeper.specs.Promise.{all_small, small_command}
 use Rattle.keeper.specs.Own.{step_fits}
 use Rattle.keeper.specs.Meaning.{Means}
-use Rattle.keeper.specs.Playing.{played, row_read, count_read}
+use Rattle.row.specs.Meaning.{count}
+use Rattle.row.specs.Telling.{told, told_count}
+use Rattle.keeper.specs.Playing.{played}
 
 abbrev pub DoneSo : Board → Command → List ℕ → Type 0
 DoneSo r c m =
@@ -25,7 +28,7 @@ DoneSo r c m =
 abbrev pub Plays : Type 0
 Plays =
     (m : List ℕ) (r : Board) (c : Command) (out : List ℕ) → length m ≡ MEMORY → all_small m ≡ true → Means m r → fine r ≡ true →
-    small_command c ≡ true → 8192 ≤ length out →
+    small_command c ≡ true → OUTPUT ≤ length out →
     (refusal r c ≡ None → ((played m c out).answer.outcome ≡ Ok tt) × DoneSo r c (played m c out).memory)
     × ((why : Refusal) → refusal r c ≡ Some why → ((played m c out).answer.outcome ≡ Err (ByBoard why)) × Means (played m c out).memory r)
 
@@ -36,5 +39,5 @@ PlaysUnfit =
 
 abbrev pub ReadsRow : Type 0
 ReadsRow =
-    (m : List ℕ) (r : Board) (out : List ℕ) → length m ≡ MEMORY → Means m r → length r.row ≤ length out →
-    (count_read m out ≡ length r.row) × (row_read m out ≡ r.row ++ drop (length r.row) out)
+    (m : List ℕ) (r : Board) (out : List ℕ) → Means m r → length r.row ≤ length out →
+    (told_count m 0 (count m) out ≡ length r.row) × (told m 0 (count m) out ≡ r.row ++ drop (length r.row) out)

@@ -13,12 +13,8 @@
 --   ended_by s a        how it ended, if it had shown s numbers before its last answer a
 --   played_on n         an answer and what comes of it, in at most n more steps
 --   played m c out      the command c, in at most three steps
---   row_read m row      `row` after the row that the memory has was written to its front, if the memory is of the length that is lent
---   count_read m row    how many cards were written
+--   row_read m out      `out` with the row at its front, as the memory has it; read_count: how many cards that are; none, where the memory doesn't fit
 use Rattle.std.specs.Prelude.{◌≡◌, ℕ, zero, suc, cond, List, ◌++◌, length, drop, Some, None, Option, Ok, Err, Result, ◌==◌}
-use Rattle.memory.specs.declared.column.TheConstants.{MEMORY}
-use Rattle.row.specs.Layout.{count}
-use Rattle.row.specs.Telling.{told, told_count}
 use Rattle.command.specs.declared.command.Command.{Command}
 use Rattle.keeper.specs.declared.event.Event.{Event}
 use Rattle.keeper.specs.declared.event.Event.TheVariants.{Said, Next}
@@ -31,6 +27,9 @@ use Rattle.keeper.specs.declared.event.Telling.{Telling}
 use Rattle.keeper.specs.declared.event.Telling.TheVariants.{PassedOver}
 use Rattle.keeper.specs.Answers.{as_told}
 use Rattle.keeper.specs.Own.{answer, step_fits}
+use Rattle.memory.specs.declared.column.TheConstants.{MEMORY}
+use Rattle.row.specs.Meaning.{count}
+use Rattle.row.specs.Telling.{told, told_count}
 
 abbrev pub fronted : List ℕ → List ℕ → List ℕ
 fronted ks out = ks ++ drop (length ks) out
@@ -92,7 +91,7 @@ abbrev pub played : List ℕ → Command → List ℕ → Ending
 played m c out = plays 3 m (Said c) out 0
 
 unfoldable pub row_read : List ℕ → List ℕ → List ℕ
-row_read m row = cond (length m == MEMORY) (told m 0 (count m) row) row
+row_read m out = cond (length m == MEMORY) (told m 0 (count m) out) out
 
-unfoldable pub count_read : List ℕ → List ℕ → ℕ
-count_read m row = cond (length m == MEMORY) (told_count m 0 (count m) row) 0
+unfoldable pub read_count : List ℕ → List ℕ → ℕ
+read_count m out = cond (length m == MEMORY) (told_count m 0 (count m) out) 0

@@ -17,6 +17,7 @@
 use Rattle.std.specs.Prelude.{◌≡◌, ℕ, zero, ◌≤◌, Bool, true, ◌&&◌, ltb, ◌≢◌, List, [], ◌∷◌, length, Some, None, nat_eq, nat_lt}
 use Rattle.command.specs.declared.command.Command.{Command}
 use Rattle.command.specs.declared.command.Command.TheVariants.{Comes, Goes, Link as Links, Unlink as Unlinks, Places}
+use Rattle.memory.specs.declared.column.TheConstants.{MEMORY}
 use Rattle.order.specs.declared.board.Refusal.{Refusal}
 use Rattle.order.specs.declared.board.Refusal.TheVariants.{Cycle}
 use Rattle.order.specs.Lists.{every, place}
@@ -36,7 +37,7 @@ all_small ms = every (λ m. ltb m 18446744073709551616) ms
 -- does not fit 64 bits, if none was there.
 unfoldable pub Steady : Engine → Type 0
 Steady e =
-    (length e.start ≤ 524288) × (every (λ m. nat_eq m 0) e.start ≡ true)
+    (length e.start ≤ MEMORY) × (every (λ m. nat_eq m 0) e.start ≡ true)
     × ((m : List ℕ) (ev : Event) → (length (e.step m ev).memory ≡ length m) × (all_small m ≡ true → all_small (e.step m ev).memory ≡ true))
 
 -- If two places are asked for, they are shown; nothing else is.

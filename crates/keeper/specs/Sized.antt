@@ -5,6 +5,8 @@
 --   fits a           the answer fits what carries it: a place in the row and at most 4,096 cards, or at most 8,192 numbers, each below 2^64
 --   Fits e           each answer of the engine fits, whatever stands in its memory
 use Rattle.std.specs.Prelude.{◌≡◌, ℕ, Bool, true, cond, ◌&&◌, List, length, nat_le, nat_lt}
+use Rattle.order.specs.declared.board.TheConstants.{CARDS}
+use Rattle.keeper.specs.declared.layout.TheConstants.{OUTPUT, TOLD}
 use Rattle.keeper.specs.declared.event.Event.{Event}
 use Rattle.keeper.specs.declared.event.Event.TheVariants.{Said, Next}
 use Rattle.keeper.specs.declared.event.Reason.TheVariants.{Unfit}
@@ -22,8 +24,8 @@ abbrev pub KeepsSize : List ℕ → List ℕ → Type 0
 KeepsSize m m₁ = (length m₁ ≡ length m) × (all_small m ≡ true → all_small m₁ ≡ true)
 
 unfoldable pub fits : Action → Bool
-fits (tells i ks) = nat_le i 8192 && (nat_le (length ks) 4096 && all_small ks)
-fits (shows ks) = nat_le (length ks) 8192 && all_small ks
+fits (tells i ks) = nat_le i CARDS && (nat_le (length ks) TOLD && all_small ks)
+fits (shows ks) = nat_le (length ks) OUTPUT && all_small ks
 fits done = true
 fits (refused k) = nat_lt k 1000
 

@@ -12,10 +12,9 @@ mod telling;
 mod theory;
 
 pub use event::{Act, Event, Reason, Telling};
-pub use layout::{OUTPUT, Output};
+pub use layout::{MORE_FROM, MORE_TO, OUTPUT, Output, PENDING};
 pub use linking::slots_of;
 pub use memory::{MEMORY, Memory};
-pub use order::LINKS;
 pub use pending::Pending;
 pub use playing::{Played, play, play_on, read_row};
 pub use stepping::{hear, step};

@@ -11,10 +11,11 @@ use crate::reordering::reorder;
 use links::{insert, remove};
 use memory::Memory;
 use order::{LINKS, Link, Refusal};
-use row::{find, place_at};
+use row::{find, seat_of};
 
 // The slots of two cards, if both are there.
 #[tactic(auto, unfolding(crate::specs::Linking::slots_found))]
+#[inline(always)]
 pub fn slots_of(memory: &Memory, link: Link) -> Option<Link>
     ensures { result ≡ slots_found memory.now link }
 {
@@ -40,6 +41,7 @@ pub(crate) fn unlink(memory: &mut Memory, link: Link) -> Result<Act, Reason>
 
 // Puts a link between slots in, if there's room.
 #[tactic(auto, unfolding(crate::specs::Linking::put_in))]
+#[inline(always)]
 fn put_in(memory: &mut Memory, slots: Link) -> Result<Act, Reason>
     ensures { Ends (put_in memory.old slots) result memory.new }
 {
@@ -59,8 +61,9 @@ fn show_itself(memory: &mut Memory, card: u64, out: &mut Output) -> Act
     Act::Shows(1)
 }
 
-// Makes a link between cards.
+// Makes a link between cards. Which of the two stands first is asked of their seats.
 #[tactic(auto, using(crate::proofs::Writing::writing), unfolding(crate::specs::Answers::as_told, crate::specs::Linking::linked))]
+#[inline(always)]
 pub(crate) fn link(
     memory: &mut Memory,
     link: Link,
@@ -78,7 +81,7 @@ pub(crate) fn link(
     if slots.from == slots.to {
         return Ok(show_itself(memory, link.from, out));
     }
-    if place_at(memory, slots.to) < place_at(memory, slots.from) {
+    if seat_of(memory, slots.to) < seat_of(memory, slots.from) {
         return reorder(memory, slots, telling, out);
     }
     put_in(memory, slots)

@@ -1,7 +1,7 @@
 // A command, played to its end.
 ghost use Rattle.std.specs.Prelude.{◌≡◌};
 ghost use Rattle.keeper.specs.Own.{own};
-ghost use Rattle.keeper.specs.Playing.{shown_then, ended_by, played_on, played, Went, row_read, count_read};
+ghost use Rattle.keeper.specs.Playing.{shown_then, ended_by, played_on, played, Went, read_count, row_read};
 ghost use Rattle.keeper.specs.PlayLaws.{Plays};
 ghost use Rattle.keeper.specs.Promise.{Whole};
 ghost use Rattle.keeper.specs.Sister.{WholeIn};
@@ -54,6 +54,7 @@ fn end(answer: Result<Act, Reason>, shown: u64) -> Played
 }
 
 // Goes on from a first answer up to the end of what was said, and passes over what is told. Two more steps are enough, unless the memory isn't a keeper's.
+#[inline(always)]
 pub fn play_on(memory: &mut [u64], first: Result<Act, Reason>, out: &mut [u64]) -> Played
     ensures { Went (played_on 2 memory.old first out.old 0) result memory.new out.new }
 {
@@ -71,6 +72,7 @@ pub fn play_on(memory: &mut [u64], first: Result<Act, Reason>, out: &mut [u64]) 
 
 // Says a command, and goes on until it's at its end; what is told is passed over. The steps are those of the engine that meets the promise; what is played is
 // then done or refused as the board says.
+#[inline(always)]
 pub fn play(memory: &mut [u64], command: Command, out: &mut [u64]) -> Played
     ensures went { Went (played memory.old command out.old) result memory.new out.new }
     ensures whole { Whole own }
@@ -81,11 +83,11 @@ pub fn play(memory: &mut [u64], command: Command, out: &mut [u64]) -> Played
     play_on(memory, first, out)
 }
 
-// Writes the row, as the memory has it, to the front of `row`, and says how many cards it has; nothing if it finds no room, or the memory isn't of the length that
-// is lent to the keeper.
-#[tactic(auto, unfolding(crate::specs::Playing::row_read, crate::specs::Playing::count_read))]
+// Writes the row, as the memory has it, to the front of `row`, and says how many cards it has; nothing if it finds no room, or if the memory isn't as long as
+// it has to be.
+#[tactic(auto, using(crate::proofs::RowRead::reading))]
 pub fn read_row(memory: &[u64], row: &mut [u64]) -> u64
-    ensures is { result ≡ count_read memory.now row.old }
+    ensures is { result ≡ read_count memory.now row.old }
     ensures row { row.new ≡ row_read memory.now row.old }
 {
     let Some(memory) = memory.as_array() else {

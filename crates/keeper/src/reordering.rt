@@ -14,6 +14,7 @@ use row::place_at;
 use search::{forget, meet, settle, show_and_forget};
 
 // Shows the way by which the link would go round, after the searches met.
+#[inline(never)]
 fn show_round(memory: &mut Memory, slots: Link, joint: Link, out: &mut Output) -> Act
     ensures { Gives (shown_round memory.old slots joint) out.old (Ok result) memory.new out.new }
 {
@@ -22,22 +23,22 @@ fn show_round(memory: &mut Memory, slots: Link, joint: Link, out: &mut Output) -
     Act::Shows(n)
 }
 
-// Puts the link in, with the row settled for it, if there's room; tells the part of the row from `low` to `high`.
+// Puts the link in, with the row settled for it, if there's room; tells the part of the row between the two cards' places.
 #[tactic(auto, using(crate::proofs::Writing::writing), unfolding(crate::specs::Answers::as_told, crate::specs::Reordering::moved))]
 fn move_cards(
     memory: &mut Memory,
     slots: Link,
-    low: u64,
-    high: u64,
     telling: Telling,
     out: &mut Output,
 ) -> Result<Act, Reason>
-    ensures { Gives (as_told telling (moved memory.old slots low high)) out.old result memory.new out.new }
+    ensures { Gives (as_told telling (moved memory.old slots)) out.old result memory.new out.new }
 {
     if links::len(memory) >= LINKS {
         forget(memory);
         return Err(Refusal::Full.into());
     }
+    let low = place_at(memory, slots.to);
+    let high = place_at(memory, slots.from);
     settle(memory);
     insert(memory, slots);
     Ok(tell_part(memory, low, high.saturating_add(1), telling, out))
@@ -45,6 +46,7 @@ fn move_cards(
 
 // For a link between slots of which the second stands first: the row is settled for it, or it's refused with the way by which it would go round.
 #[tactic(auto, using(crate::proofs::Writing::writing), unfolding(crate::specs::Answers::as_told, crate::specs::Reordering::reordered, crate::specs::Reordering::shown_round))]
+#[inline(never)]
 pub(crate) fn reorder(
     memory: &mut Memory,
     slots: Link,
@@ -53,10 +55,8 @@ pub(crate) fn reorder(
 ) -> Result<Act, Reason>
     ensures { Gives (as_told telling (reordered memory.old slots)) out.old result memory.new out.new }
 {
-    let low = place_at(memory, slots.to);
-    let high = place_at(memory, slots.from);
     if let Some(joint) = meet(memory, slots) {
         return Ok(show_round(memory, slots, joint, out));
     }
-    move_cards(memory, slots, low, high, telling, out)
+    move_cards(memory, slots, telling, out)
 }

@@ -54,6 +54,7 @@ fn show_places(memory: &mut Memory, a: u64, b: u64, out: &mut Output) -> Result<
 
 // A command is said.
 #[tactic(auto, using(crate::proofs::Writing::writing), unfolding(crate::specs::Answers::as_told, crate::specs::Own::said))]
+#[inline(always)]
 fn say(
     memory: &mut Memory,
     command: Command,
@@ -90,6 +91,7 @@ fn go_on(memory: &mut Memory, telling: Telling, out: &mut Output) -> Result<Act,
 
 // The answer to an event, where memory and output fit; what is told may be passed over.
 #[tactic(auto, using(crate::proofs::Writing::writing), unfolding(crate::specs::Answers::as_told, crate::specs::Own::answer, crate::specs::Answers::still_to_come))]
+#[inline(always)]
 pub fn hear(
     memory: &mut Memory,
     event: Event,
@@ -107,6 +109,7 @@ pub fn hear(
 
 // One step as `step` takes it, but that what is told may be passed over.
 #[tactic(auto, using(crate::proofs::Fitting::fitting))]
+#[inline(always)]
 pub(crate) fn step_as(
     memory: &mut [u64],
     event: Event,

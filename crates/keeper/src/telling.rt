@@ -8,7 +8,7 @@ use crate::layout::{Output, TOLD};
 use crate::pending::Pending;
 use memory::Memory;
 use order::CARDS;
-use row::tell;
+use row::{len, tell};
 
 // Notes what is still to come of a row that is told up to `from`, and is to be told up to `to`.
 #[tactic(auto, unfolding(crate::specs::Telling::left_to_tell))]
@@ -23,7 +23,7 @@ fn note_rest(memory: &mut Memory, from: u64, to: u64)
     rest.note(memory);
 }
 
-// Tells the cards from the place `from` on, below `to`, at most TOLD of them.
+// Tells the cards from the place `from` on, below `to`, at most TOLD of them, none past the row's end.
 pub(crate) fn tell_part(
     memory: &mut Memory,
     from: u64,
@@ -33,8 +33,8 @@ pub(crate) fn tell_part(
 ) -> Act
     ensures { Gives (as_told telling (told_part memory.old from to)) out.old (Ok result) memory.new out.new }
 {
-    let first = from.min(CARDS);
-    let end = to.min(CARDS);
+    let end = to.min(len(memory)).min(CARDS);
+    let first = from.min(end);
     let n = end.saturating_sub(first).min(TOLD);
     match telling {
         Telling::Written => {

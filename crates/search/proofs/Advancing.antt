@@ -1,102 +1,87 @@
 -- One of the two searches goes on from one card.
-use Rattle.std.proofs.Common.{◌≡◌, ℕ, ◌+◌, ◌-◌, ◌<◌, ◌≤◌, true, ◌⊎◌, List, Some, None, Option, Continue, Break, ControlFlow, sym, refl, ap, ◌∙◌, inl, inr, arith}
-use Rattle.row.specs.declared.board.Link.{Link}
-use Rattle.row.specs.Board.{◌⟶◌}
-use Rattle.row.specs.Columns.{cell}
-use Rattle.row.specs.Layout.{places, slots}
+use Rattle.std.proofs.Common.{◌≡◌, ℕ, ◌+◌, ◌<◌, ◌≤◌, true, ◌⊎◌, List, suc, length, Some, None, Option, Continue, Break, ControlFlow, sym, refl, ap, ◌∙◌, inl, inr, arith}
+use Rattle.order.specs.declared.board.TheConstants.{CARDS}
+use Rattle.order.specs.declared.board.Link.{Link}
+use Rattle.order.specs.Board.{◌⟶◌}
+use Rattle.memory.specs.declared.place_set.TheConstants.{PLACES}
+use Rattle.memory.specs.Columns.{cell}
+use Rattle.memory.specs.PlaceSets.{marked}
+use Rattle.row.specs.declared.layout.TheConstants.{SLOTS, SEATS}
 use Rattle.row.specs.Meaning.{used}
-use Rattle.links.specs.declared.chain.Chain.{Chain}
-use Rattle.links.specs.Layout.{pointers, heads, end}
-use Rattle.links.specs.Entries.{key}
-use Rattle.links.specs.Meaning.{At}
-use Rattle.links.proofs.Stepping.{at_head}
+use Rattle.chains.specs.declared.cells.Pointer.{Pointer}
+use Rattle.links.specs.Table.{edges}
 use Rattle.search.specs.declared.side.Side.{Side}
-use Rattle.search.specs.declared.side.Side.TheVariants.{Fore, Hind}
 use Rattle.search.specs.declared.hunt.Front.{Front}
-use Rattle.search.specs.Marks.{marked}
-use Rattle.search.specs.Sides.{chain_of, marks_of, other, ahead}
+use Rattle.search.specs.Sides.{marks_of, other, ahead}
 use Rattle.search.specs.Hunt.{Spreading, spreading, Going, advanced, moved, gone_on, part_of}
 use Rattle.search.specs.Meaning.{Trailed}
-use Rattle.search.proofs.Potential.{entries, entries_more, weight, weight_passed, cost}
-use Rattle.search.proofs.Between.{Setting, used_below, count_below, slot_on_used, part_tells}
-use Rattle.search.proofs.Reaching.{arc_entry}
-use Rattle.search.proofs.Sounding.{Sound, same_table}
+use Rattle.search.proofs.Potential.{weight, weight_passed, cost}
+use Rattle.search.proofs.Between.{Setting, used_tells, taken_tells}
+use Rattle.search.proofs.Reaching.{near_end, Along, along}
+use Rattle.search.proofs.Sounding.{Sound}
 use Rattle.search.proofs.Spreads.{Covered, Ends, Spreaded, spreads}
 use Rattle.search.proofs.Parting.{Closed, trailed}
 use Rattle.search.proofs.Cursors.{passed, ahead_of, Nexts, nexts, not_passed, beyond_not, passed_here, passed_more, passed_tells, next_there, fewer}
 
-heads_of : (d : Side) → heads (chain_of d) ≡ 8192
-heads_of Fore = refl
-heads_of Hind = refl
-
--- what the slots cost that a search hasn't passed
-abbrev pub owed : List ℕ → (ℕ → Link) → Side → Option ℕ → ℕ
-owed m was d o = weight (cost (λ l. key (chain_of d) (was l)) (end m)) (λ k. passed d o (cell m places k)) 8192
+-- what the SLOTS cost that a search hasn't passed
+abbrev pub owed : List ℕ → Side → Option ℕ → ℕ
+owed m d o = weight (cost (near_end d) (edges m)) (λ k. passed d o (cell m SEATS k)) CARDS
 
 -- where a search stands: its cursor is at what it has come to, what it has passed is closed, and its fuel will do
-pub record Placed (m : List ℕ) (a b : ℕ) (was : ℕ → Link) (n : List ℕ) (d : Side) (o : Option ℕ) (f : ℕ) : Type 0 where
+pub record Placed (m : List ℕ) (a b : ℕ) (n : List ℕ) (d : Side) (o : Option ℕ) (f : ℕ) : Type 0 where
   pub there : (p : ℕ) → o ≡ Some p → marked n (marks_of d) p ≡ true
   pub closed : (q : ℕ) → marked n (marks_of d) q ≡ true → passed d o q ≡ true → Closed m a b d n q
-  pub enough : owed m was d o ≤ f
+  pub enough : owed m d o ≤ f
 
-abbrev pub Fronted : (m : List ℕ) (a b : ℕ) (was : ℕ → Link) (n : List ℕ) → Front → Type 0
-Fronted m a b was n c = Placed m a b was n c.side c.cursor c.fuel
+abbrev pub Fronted : (m : List ℕ) (a b : ℕ) (n : List ℕ) → Front → Type 0
+Fronted m a b n c = Placed m a b n c.side c.cursor c.fuel
 
 -- the other search stands where it stood
-pub placed_same : (m : List ℕ) (a b : ℕ) (was : ℕ → Link) (n n' : List ℕ) (d : Side) (o : Option ℕ) (f : ℕ)
-    → ((q : ℕ) → marked n' (marks_of d) q ≡ marked n (marks_of d) q) → Placed m a b was n d o f → Placed m a b was n' d o f
-placed_same m a b was n n' d o f e h = record {
+pub placed_same : (m : List ℕ) (a b : ℕ) (n n' : List ℕ) (d : Side) (o : Option ℕ) (f : ℕ)
+    → ((q : ℕ) → marked n' (marks_of d) q ≡ marked n (marks_of d) q) → Placed m a b n d o f → Placed m a b n' d o f
+placed_same m a b n n' d o f e h = record {
   there = λ p i. e p ∙ h.there p i;
-  closed = λ q k l t j y. e (cell m places t) ∙ h.closed q (sym (e q) ∙ k) l t j y;
+  closed = λ q k l t j y. e (cell m SEATS t) ∙ h.closed q (sym (e q) ∙ k) l t j y;
   enough = h.enough;
 }
 
-module _ (m : List ℕ) (a b : ℕ) (S : Setting m a b) (was : ℕ → Link) where
+module _ (m : List ℕ) (a b : ℕ) (S : Setting m a b) where
   -- by what the search at c tells, in the memory n: where it met the other, or where it stands, further on than at c
   abbrev pub Tells : List ℕ → Front → ControlFlow Link Front → Type 0
   Tells n c (Break l) = Trailed m n a b l.from l.to
   Tells n c (Continue e) =
-      (e.side ≡ c.side) × Fronted m a b was n e × ((ahead_of e.side e.cursor ≡ 0) ⊎ (ahead_of e.side e.cursor < ahead_of c.side c.cursor))
+      (e.side ≡ c.side) × Fronted m a b n e × ((ahead_of e.side e.cursor ≡ 0) ⊎ (ahead_of e.side e.cursor < ahead_of c.side c.cursor))
 
   pub record Gone (n : List ℕ) (c : Front) (x : Going) : Type 0 where
-    pub sound : Sound m a b was x.memory
+    pub sound : Sound m a b x.memory
     pub same_other : (q : ℕ) → marked x.memory (marks_of (other c.side)) q ≡ marked n (marks_of (other c.side)) q
     pub told : Tells x.memory c x.advance
 
-  module _ (n : List ℕ) (s : Sound m a b was n) (d : Side) (p f : ℕ) (h : Placed m a b was n d (Some p) f) where
+  module _ (n : List ℕ) (s : Sound m a b n) (d : Side) (p f : ℕ) (h : Placed m a b n d (Some p) f) where
     abbrev x : ℕ
-    x = cell m slots p
-
-    abbrev c : Chain
-    c = chain_of d
-
-    abbrev g : ℕ → ℕ
-    g l = key c (was l)
+    x = cell m SLOTS p
 
     mp : marked n (marks_of d) p ≡ true
     mp = h.there p refl
 
-    seated : (used m x ≡ true) × (cell m places x ≡ p)
-    seated = slot_on_used m a b S p (part_tells m a b S p (s.within d p mp)).2
+    seated : (used m x ≡ true) × (cell m SEATS x ≡ p) × (p < PLACES)
+    seated = taken_tells m a b S p (s.within d p mp).0
 
-    x_below : x < 8192
-    x_below = (used_below m a b S x seated.0).0
+    x_below : x < CARDS
+    x_below = (used_tells m a b S x seated.0).0
 
-    p_below : p < 8192
-    p_below = omega (arith, (part_tells m a b S p (s.within d p mp)).2, count_below m a b S)
+    chain : (xs : List Pointer) × Along m d x xs
+    chain = along m S.ready.is_table d x x_below
 
-    at : At n was c x x (end n)
-    at = at_head n was s.holds c x (omega (arith, x_below, heads_of d))
-
-    held : entries g x (cell n (pointers c) x) ≤ entries g x (end m)
-    held = entries_more g x (end m) (cell n (pointers c) x) (omega (arith, at.skips.low, (same_table m n s.frame).same_end))
+    abbrev xs : List Pointer
+    xs = chain.0
 
     -- passing p pays for its slot
-    pays : (o : Option ℕ) → ((q : ℕ) → passed d (Some p) q ≡ true → passed d o q ≡ true) → passed d o p ≡ true → owed m was d o + cost g (end m) x ≤ f
+    pays : (o : Option ℕ) → ((q : ℕ) → passed d (Some p) q ≡ true → passed d o q ≡ true) → passed d o p ≡ true → owed m d o + suc (length xs) ≤ f
     pays o more here =
-        let l = weight_passed (cost g (end m)) (λ k. passed d (Some p) (cell m places k)) (λ k. passed d o (cell m places k)) 8192 x
-        (λ k _. more (cell m places k)) x_below (rw seated.1 (not_passed d p)) (rw seated.1 here) in
-        omega (arith, l, h.enough)
+        let l = weight_passed (cost (near_end d) (edges m)) (λ k. passed d (Some p) (cell m SEATS k)) (λ k. passed d o (cell m SEATS k)) CARDS x
+        (λ k _. more (cell m SEATS k)) x_below (rw seated.1 (not_passed d p)) (rw seated.1 here) in
+        omega (arith, l, h.enough, chain.1.long)
 
     abbrev y : Spreading
     y = spreading f n d (part_of m (a ⟶ b)) x x
@@ -104,8 +89,8 @@ module _ (m : List ℕ) (a b : ℕ) (S : Setting m a b) (was : ℕ → Link) whe
     abbrev n' : List ℕ
     n' = y.memory
 
-    spread : Spreaded m a b S was d x seated.0 n f x (end n) y
-    spread = spreads m a b S was d x seated.0 f n x (end n) s at (rw seated.1 mp) (omega (arith, held, pays None (λ q _. refl) refl))
+    spread : Spreaded m a b S d x seated.0 n f xs y
+    spread = spreads m a b S d x seated.0 xs f n x s (rw seated.1 mp) chain.1.led (λ t z. sym (chain.1.goals t) ∙ z) (omega (arith, pays None (λ q _. refl) refl))
 
     abbrev o : Option ℕ
     o = ahead n' d p
@@ -113,37 +98,32 @@ module _ (m : List ℕ) (a b : ℕ) (S : Setting m a b) (was : ℕ → Link) whe
     next : Nexts d (marked n' (marks_of d)) p o
     next = nexts n' d p (spread.sound.summed d)
 
-    closed_new : Covered m a b S was d x seated.0 (end n) n' → (q : ℕ) → marked n' (marks_of d) q ≡ true → passed d o q ≡ true → Closed m a b d n' q
+    closed_new : Covered m a b S d x seated.0 xs n' → (q : ℕ) → marked n' (marks_of d) q ≡ true → passed d o q ≡ true → Closed m a b d n' q
     closed_new cov q k l t j v = elim (passed_tells d (marked n' (marks_of d)) p q o next k l) [
-      | inr e ↦
-          let r = arc_entry m d x t (rw e at j) in
-          rw r.2 at (cov r.0 (omega (arith, r.1.below, (same_table m n s.frame).same_end)) r.1.alive r.1.own (rw r.2 v))
+      | inr e ↦ cov t (chain.1.goals t ∙ (rw e at j)) v
       | inl e ↦ elim (spread.grown.beyond q k) [
-        | inl z ↦ spread.grown.stays (cell m places t) (h.closed q z e t j v)
+        | inl z ↦ spread.grown.stays (cell m SEATS t) (h.closed q z e t j v)
         | inr z ↦ absurd (beyond_not d p q (rw seated.1 at z) e)
       ]
     ]
 
-    abbrev spent : ℕ
-    spent = entries g x (cell n (pointers c) x) + 1
-
-    placed_new : (k : ℕ) → Covered m a b S was d x seated.0 (end n) n' → f - spent ≤ k → Placed m a b was n' d o k
+    placed_new : (k : ℕ) → Covered m a b S d x seated.0 xs n' → f ≤ k + suc (length xs) → Placed m a b n' d o k
     placed_new k cov l = record {
       there = λ q e. next_there d (marked n' (marks_of d)) p q (rw e at next);
       closed = closed_new cov;
-      enough = omega (arith, held, pays o (λ q. passed_more d (marked n' (marks_of d)) p q o next) (passed_here d (marked n' (marks_of d)) p o next));
+      enough = omega (arith, pays o (λ q. passed_more d (marked n' (marks_of d)) p q o next) (passed_here d (marked n' (marks_of d)) p o next));
     }
 
     abbrev from : Front
     from = record { side = d; cursor = Some p; fuel = f }
 
-    told_new : (u : ControlFlow ℕ ℕ) → Ends m a b S was d x seated.0 (end n) n' (f - spent) u → Tells n' from (advanced from u n' p x)
-    told_new (Continue k) e = (refl, placed_new k e.0 e.1, inr (fewer d (marked n' (marks_of d)) p o p_below next))
-    told_new (Break t) e = trailed m a b S was n' spread.sound d x t (spread.grown.stays (cell m places x) (rw seated.1 mp)) e.0 e.1
+    told_new : (u : ControlFlow ℕ ℕ) → Ends m a b S d x seated.0 xs n' f u → Tells n' from (advanced from u n' p x)
+    told_new (Continue k) e = (refl, placed_new k e.0 e.1, inr (fewer d (marked n' (marks_of d)) p o seated.2 next))
+    told_new (Break t) e = trailed m a b S n' spread.sound d x t (spread.grown.stays (cell m SEATS x) (rw seated.1 mp)) e.0 e.1
 
     gone_is : gone_on n (part_of m (a ⟶ b)) from ≡ moved from y p x
     unfolding gone_on
-    gone_is = ap (λ (z : ℕ). moved from (spreading f n d (part_of m (a ⟶ b)) z z) p z) (s.frame.others slots p refl)
+    gone_is = ap (λ (z : ℕ). moved from (spreading f n d (part_of m (a ⟶ b)) z z) p z) (s.frame.others SLOTS p refl)
 
     pub gone_some : Gone n from (gone_on n (part_of m (a ⟶ b)) from)
     gone_some = rw gone_is (record {
@@ -152,15 +132,15 @@ module _ (m : List ℕ) (a b : ℕ) (S : Setting m a b) (was : ℕ → Link) whe
       told = told_new y.spread spread.told;
     })
 
-  gone_none : (n : List ℕ) (d : Side) (f : ℕ) → Sound m a b was n → Placed m a b was n d None f
+  gone_none : (n : List ℕ) (d : Side) (f : ℕ) → Sound m a b n → Placed m a b n d None f
       → Gone n (record { side = d; cursor = None; fuel = f }) (gone_on n (part_of m (a ⟶ b)) (record { side = d; cursor = None; fuel = f }))
   unfolding gone_on
   gone_none n d f s h = record { sound = s; same_other = λ q. refl; told = (refl, h, inl refl) }
 
-  gone_at : (n : List ℕ) (d : Side) (o : Option ℕ) (f : ℕ) → Sound m a b was n → Placed m a b was n d o f
+  gone_at : (n : List ℕ) (d : Side) (o : Option ℕ) (f : ℕ) → Sound m a b n → Placed m a b n d o f
       → Gone n (record { side = d; cursor = o; fuel = f }) (gone_on n (part_of m (a ⟶ b)) (record { side = d; cursor = o; fuel = f }))
   gone_at n d None f s h = gone_none n d f s h
   gone_at n d (Some p) f s h = gone_some n s d p f h
 
-  pub goes : (n : List ℕ) (c : Front) → Sound m a b was n → Fronted m a b was n c → Gone n c (gone_on n (part_of m (a ⟶ b)) c)
+  pub goes : (n : List ℕ) (c : Front) → Sound m a b n → Fronted m a b n c → Gone n c (gone_on n (part_of m (a ⟶ b)) c)
   goes n c s h = gone_at n c.side c.cursor c.fuel s h

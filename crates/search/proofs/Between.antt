@@ -1,16 +1,16 @@
--- The two searches over the board of slots: what a link tells of slots and places, for both directions at once.
-use Rattle.std.proofs.Common.{◌≡◌, ℕ, ◌<◌, ◌≤◌, Bool, true, ltb, leb, List, arith}
-use Rattle.std.proofs.lemmas.Bool.{and_parts, and_from, le-leb, leb-true, ltb-true}
-use Rattle.row.specs.Lists.{has}
-use Rattle.row.specs.Board.{Board, leads, linked}
-use Rattle.row.specs.Columns.{cell}
-use Rattle.row.specs.Layout.{slots, places, count, fresh}
-use Rattle.row.specs.Meaning.{row_of, used}
-use Rattle.row.proofs.Named.{place_slot}
-use Rattle.row.proofs.Tabulated.{made_has}
-use Rattle.row.proofs.Present.{slot_used, used_place}
-use Rattle.row.proofs.Climbs.{Fine, fine_parts, link_ends, link_before}
-use Rattle.row.proofs.Leading.{leads_just}
+-- The two searches over the board of slots: what a link tells of slots and seats, for both directions at once.
+use Rattle.std.proofs.Common.{◌≡◌, ℕ, ◌<◌, ◌≤◌, Bool, true, leb, List, sym, ◌∙◌, arith}
+use Rattle.std.proofs.lemmas.Bool.{and_parts, and_from, le-leb, leb-true, ltb-true, lt-ltb}
+use Rattle.order.specs.declared.board.TheConstants.{CARDS}
+use Rattle.order.specs.Lists.{place}
+use Rattle.order.specs.Board.{Board, leads, linked}
+use Rattle.order.proofs.Climbs.{Fine, fine_parts, link_ends, link_before}
+use Rattle.order.proofs.Leading.{leads_just}
+use Rattle.memory.specs.declared.place_set.TheConstants.{PLACES}
+use Rattle.memory.specs.Columns.{cell}
+use Rattle.row.specs.declared.layout.TheConstants.{SLOTS, SEATS}
+use Rattle.row.specs.Meaning.{row_of, used, taken}
+use Rattle.row.proofs.Rows.{Seated, seated, room, sitting, at_seat, has_is, order_is}
 use Rattle.search.specs.declared.side.Side.{Side}
 use Rattle.search.specs.declared.side.Side.TheVariants.{Fore, Hind}
 use Rattle.search.specs.Sides.{other}
@@ -31,7 +31,7 @@ abbrev pub comes : Board → Side → ℕ → ℕ → Bool
 comes r Fore x y = leads r x y
 comes r Hind x y = leads r y x
 
--- the place q is farther than p
+-- the seat q is farther than p
 abbrev pub Beyond : Side → ℕ → ℕ → Type 0
 Beyond Fore p q = p < q
 Beyond Hind p q = q < p
@@ -41,7 +41,7 @@ pub record Setting (m : List ℕ) (a b : ℕ) : Type 0 where
   pub ready : Ready m
   pub a_used : used m a ≡ true
   pub b_used : used m b ≡ true
-  pub before : cell m places b < cell m places a
+  pub before : cell m SEATS b < cell m SEATS a
 
 module _ (m : List ℕ) (a b : ℕ) (S : Setting m a b) where
   abbrev r : Board
@@ -50,29 +50,28 @@ module _ (m : List ℕ) (a b : ℕ) (S : Setting m a b) where
   fine_so : Fine r
   fine_so = fine_parts r S.ready.fine_so
 
-  pub used_below : (s : ℕ) → used m s ≡ true → (s < 8192) × (cell m places s < count m) × (cell m slots (cell m places s) ≡ s)
-  used_below s u =
-      let p = used_place m S.ready.stands s u in
-      let q = and_parts (ltb s (fresh m)) (ltb (cell m places s) (count m)) u in
-      (omega (arith, ltb-true s (fresh m) q.0, S.ready.stands.stands.room), p.0, p.1)
+  sits : Seated m
+  sits = seated m S.ready.is_row
 
-  pub count_below : count m ≤ 8192
-  count_below = omega (arith, S.ready.stands.stands.few, S.ready.stands.stands.room)
+  -- the slot sits, and at its seat sits the slot
+  pub used_tells : (s : ℕ) → used m s ≡ true → (s < CARDS) × (taken m (cell m SEATS s) ≡ true) × (cell m SLOTS (cell m SEATS s) ≡ s)
+  used_tells s u = sitting m sits s u
 
-  pub slot_on_used : (p : ℕ) → p < count m → (used m (cell m slots p) ≡ true) × (cell m places (cell m slots p) ≡ p)
-  slot_on_used p h = (slot_used m S.ready.stands p h, (S.ready.stands.stands.slot_at p (omega (arith, S.ready.stands.stands.few))).1)
+  pub taken_tells : (p : ℕ) → taken m p ≡ true → (used m (cell m SLOTS p) ≡ true) × (cell m SEATS (cell m SLOTS p) ≡ p) × (p < PLACES)
+  taken_tells p h = (at_seat m sits p h, sits.stands.seat_of p h, room m sits p h)
 
-  pub row_used : (s : ℕ) → has (row_of m) s ≡ true → used m s ≡ true
-  row_used s h = let w = made_has (cell m slots) 0 (count m) s h in rw w.3 at (slot_on_used w.0 (omega (arith, w.2))).0
+  pub seat_below : (s : ℕ) → used m s ≡ true → cell m SEATS s < PLACES
+  seat_below s u = (taken_tells (cell m SEATS s) (used_tells s u).1).2
 
-  linked_tells : (x y : ℕ) → linked r x y ≡ true → (used m x ≡ true) × (used m y ≡ true) × (cell m places x < cell m places y)
+  linked_tells : (x y : ℕ) → linked r x y ≡ true → (used m x ≡ true) × (used m y ≡ true) × (cell m SEATS x < cell m SEATS y)
   linked_tells x y h =
       let e = link_ends r fine_so x y h in
-      let u = row_used x e.0 in
-      let v = row_used y e.1 in
-      (u, v, omega (arith, link_before r fine_so x y h, place_slot m S.ready.stands x u, place_slot m S.ready.stands y v))
+      let u = sym (has_is m sits x) ∙ e.0 in
+      let v = sym (has_is m sits y) ∙ e.1 in
+      let l = lt-ltb (place (row_of m) x) (place (row_of m) y) (link_before r fine_so x y h) in
+      (u, v, ltb-true (cell m SEATS x) (cell m SEATS y) (order_is m sits x y u v ∙ l))
 
-  pub arc_tells : (d : Side) (x y : ℕ) → arc r d x y ≡ true → (used m x ≡ true) × (used m y ≡ true) × Beyond d (cell m places x) (cell m places y)
+  pub arc_tells : (d : Side) (x y : ℕ) → arc r d x y ≡ true → (used m x ≡ true) × (used m y ≡ true) × Beyond d (cell m SEATS x) (cell m SEATS y)
   arc_tells Fore x y h = linked_tells x y h
   arc_tells Hind x y h = let t = linked_tells y x h in (t.1, t.0, t.2)
 
@@ -87,15 +86,13 @@ module _ (m : List ℕ) (a b : ℕ) (S : Setting m a b) where
   -- the two searches meet: from the one's origin to the other's
   pub comes_round : (d : Side) (x t : ℕ) → comes r d (origin a b d) x ≡ true → arc r d x t ≡ true → comes r (other d) (origin a b (other d)) t ≡ true
       → leads r b a ≡ true
-  comes_round Fore x t h e k =
-      (leads_just r b t a S.ready.fine_so).2 (comes_on Fore b x t h e) k
-  comes_round Hind x t h e k =
-      (leads_just r b t a S.ready.fine_so).2 k (comes_on Hind a x t h e)
+  comes_round Fore x t h e k = (leads_just r b t a S.ready.fine_so).2 (comes_on Fore b x t h e) k
+  comes_round Hind x t h e k = (leads_just r b t a S.ready.fine_so).2 k (comes_on Hind a x t h e)
 
-  pub part_tells : (q : ℕ) → part m a b q ≡ true → (cell m places b ≤ q) × (q ≤ cell m places a) × (q < count m)
+  pub part_tells : (q : ℕ) → part m a b q ≡ true → (cell m SEATS b ≤ q) × (q ≤ cell m SEATS a) × (q < PLACES)
   part_tells q h =
-      let p = and_parts (leb (cell m places b) q) (leb q (cell m places a)) h in
-      (leb-true (cell m places b) q p.0, leb-true q (cell m places a) p.1, omega (arith, leb-true q (cell m places a) p.1, (used_below a S.a_used).1))
+      let p = and_parts (leb (cell m SEATS b) q) (leb q (cell m SEATS a)) h in
+      (leb-true (cell m SEATS b) q p.0, leb-true q (cell m SEATS a) p.1, omega (arith, leb-true q (cell m SEATS a) p.1, seat_below a S.a_used))
 
-  pub part_from : (q : ℕ) → cell m places b ≤ q → q ≤ cell m places a → part m a b q ≡ true
-  part_from q x y = and_from _ _ (le-leb (cell m places b) q x) (le-leb q (cell m places a) y)
+  pub part_from : (q : ℕ) → cell m SEATS b ≤ q → q ≤ cell m SEATS a → part m a b q ≡ true
+  part_from q x y = and_from _ _ (le-leb (cell m SEATS b) q x) (le-leb q (cell m SEATS a) y)

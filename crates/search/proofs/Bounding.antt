@@ -1,31 +1,31 @@
 -- The two searches in turn, to their end.
 use Rattle.std.proofs.Common.{◌≡◌, ℕ, zero, suc, ◌*◌, ◌<◌, ◌≤◌, true, false, ◌&&◌, ◌⊎◌, List, Some, None, Option, Continue, Break, ControlFlow, sym, refl, ap, ◌∙◌, inl, inr, arith}
 use Rattle.std.proofs.lemmas.Bool.{and_parts, both_ways, cond_both}
-use Rattle.row.specs.declared.board.Link.{Link}
-use Rattle.row.specs.Board.{◌⟶◌}
-use Rattle.row.specs.Lookup.{given}
+use Rattle.order.specs.declared.board.Link.{Link}
+use Rattle.order.specs.Board.{◌⟶◌}
+use Rattle.memory.specs.Options.{given}
+use Rattle.memory.specs.PlaceSets.{marked}
 use Rattle.search.specs.declared.side.Side.{Side}
 use Rattle.search.specs.declared.side.Side.TheVariants.{Fore, Hind}
 use Rattle.search.specs.declared.hunt.Part.{Part}
 use Rattle.search.specs.declared.hunt.Front.{Front}
-use Rattle.search.specs.Marks.{marked}
 use Rattle.search.specs.Sides.{marks_of, other}
 use Rattle.search.specs.Hunt.{gone_on, idle, Met, met_with, hunt_on, hunted, part_of}
 use Rattle.search.specs.Meaning.{Parted}
 use Rattle.search.specs.HuntLaws.{Found}
-use Rattle.search.proofs.Between.{Setting, count_below, part_tells}
+use Rattle.search.proofs.Between.{Setting, part_tells}
 use Rattle.search.proofs.Sounding.{Sound}
 use Rattle.search.proofs.Entering.{which}
 use Rattle.search.proofs.Parting.{Closed, parted}
 use Rattle.search.proofs.Cursors.{passed, ahead_of, some_left}
 use Rattle.search.proofs.Advancing.{Placed, Fronted, placed_same, Tells, goes}
 
-module _ (m : List ℕ) (a b : ℕ) (S : Setting m a b) (was : ℕ → Link) where
+module _ (m : List ℕ) (a b : ℕ) (S : Setting m a b) where
   abbrev w : Part
   w = part_of m (a ⟶ b)
 
   -- neither has anything to go on from
-  module _ (n : List ℕ) (s : Sound m a b was n) (c e : Front) (o : e.side ≡ other c.side) (hc : Fronted m a b was n c) (he : Fronted m a b was n e)
+  module _ (n : List ℕ) (s : Sound m a b n) (c e : Front) (o : e.side ≡ other c.side) (hc : Fronted m a b n c) (he : Fronted m a b n e)
       (ic : c.cursor ≡ None) (ie : e.cursor ≡ None) where
     passed_none : (d : Side) (o : Option ℕ) (q : ℕ) → o ≡ None → passed d o q ≡ true
     passed_none d None q i = refl
@@ -38,13 +38,12 @@ module _ (m : List ℕ) (a b : ℕ) (S : Setting m a b) (was : ℕ → Link) whe
     ]
 
     both_done : Parted m n a b
-    both_done = parted m a b S was n s closed_both
+    both_done = parted m a b S n s closed_both
 
-  none_left : (n : List ℕ) (s : Sound m a b was n) (d : Side) (o : Option ℕ) (f : ℕ) → Placed m a b was n d o f → ahead_of d o ≡ 0 → o ≡ None
+  none_left : (n : List ℕ) (s : Sound m a b n) (d : Side) (o : Option ℕ) (f : ℕ) → Placed m a b n d o f → ahead_of d o ≡ 0 → o ≡ None
   none_left n s d None f h z = refl
   none_left n s d (Some p) f h z =
-      let l = (part_tells m a b S p (s.within d p (h.there p refl))).2 in
-      absurd (omega (arith, some_left d p (omega (arith, l, count_below m a b S))))
+      absurd (omega (arith, some_left d p (part_tells m a b S p (s.within d p (h.there p refl)).1).2))
 
   idle_none : (o : Option ℕ) → given o true (λ p. false) ≡ true → o ≡ None
   idle_none None h = refl
@@ -53,8 +52,8 @@ module _ (m : List ℕ) (a b : ℕ) (S : Setting m a b) (was : ℕ → Link) whe
   abbrev Right : Met → Type 0
   Right x = Found m x.memory a b x.answer
 
-  by_answer : (n : List ℕ) (c : Front) (u : ControlFlow Link Front) (k : Front → Met) → Tells m a b S was n c u
-      → ((e : Front) → Tells m a b S was n c (Continue e) → Right (k e)) → Right (hunt_on u n k)
+  by_answer : (n : List ℕ) (c : Front) (u : ControlFlow Link Front) (k : Front → Met) → Tells m a b S n c u
+      → ((e : Front) → Tells m a b S n c (Continue e) → Right (k e)) → Right (hunt_on u n k)
   by_answer n c (Break l) k t h = t
   by_answer n c (Continue e) k t h = h e t
 
@@ -69,14 +68,14 @@ module _ (m : List ℕ) (a b : ℕ) (S : Setting m a b) (was : ℕ → Link) whe
   abbrev turns : Front → ℕ
   turns c = ahead_of c.side c.cursor
 
-  pub hunts : (f : ℕ) (n : List ℕ) (c e : Front) → Sound m a b was n → e.side ≡ other c.side → Fronted m a b was n c → Fronted m a b was n e
+  pub hunts : (f : ℕ) (n : List ℕ) (c e : Front) → Sound m a b n → e.side ≡ other c.side → Fronted m a b n c → Fronted m a b n e
       → 2 * turns c ≤ suc f → 2 * turns e ≤ f → Right (hunted f n w c e)
   unfolding hunted
   hunts zero n c e s o hc he lc le =
       both_done n s c e o hc he (none_left n s c.side c.cursor c.fuel hc (omega arith)) (none_left n s e.side e.cursor e.fuel he (omega arith))
   hunts (suc f) n c e s o hc he lc le =
       let x = gone_on n w c in
-      let G = goes m a b S was n c s hc in
+      let G = goes m a b S n c s hc in
       let rest : Front → Met = λ k. hunted f x.memory w e k in
       cond_both (idle c && idle e) (met_with None n) (hunt_on x.advance x.memory rest) Right
       (λ i.
@@ -84,5 +83,5 @@ module _ (m : List ℕ) (a b : ℕ) (S : Setting m a b) (was : ℕ → Link) whe
       both_done n s c e o hc he (idle_none c.cursor p.0) (idle_none e.cursor p.1))
       (λ _. by_answer x.memory c x.advance rest G.told (λ k t.
       hunts f x.memory e k G.sound (two_sides c.side e.side k.side o t.0)
-      (placed_same m a b was n x.memory e.side e.cursor e.fuel (rw o G.same_other) he) t.1
+      (placed_same m a b n x.memory e.side e.cursor e.fuel (rw o G.same_other) he) t.1
       (omega arith) (fewer_turns f (turns k) (turns c) lc t.2)))

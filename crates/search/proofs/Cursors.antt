@@ -3,11 +3,12 @@ use Rattle.std.proofs.Common.{◌≡◌, ℕ, ◌+◌, ◌-◌, ◌<◌, ◌≤�
 use Rattle.std.proofs.lemmas.Bool.{ltb-true, lt-ltb, le-ltb, both_ways, cases_order}
 use Rattle.search.specs.declared.side.Side.{Side}
 use Rattle.search.specs.declared.side.Side.TheVariants.{Fore, Hind}
-use Rattle.search.specs.Marks.{marked}
-use Rattle.search.specs.MarkLaws.{Summed, JustAfter, JustBefore}
+use Rattle.memory.specs.declared.place_set.TheConstants.{PLACES}
+use Rattle.memory.specs.PlaceSets.{marked}
+use Rattle.memory.specs.PlaceSetLaws.{Summed, JustAfter, JustBefore}
 use Rattle.search.specs.Sides.{marks_of, ahead}
-use Rattle.search.proofs.Upward.{going_up}
-use Rattle.search.proofs.Downward.{going_down}
+use Rattle.memory.proofs.Upward.{going_up}
+use Rattle.memory.proofs.Downward.{going_down}
 use Rattle.search.proofs.Between.{Beyond}
 
 abbrev pub passed : Side → Option ℕ → ℕ → Bool
@@ -15,10 +16,10 @@ passed d None q = true
 passed Fore (Some c) q = ltb q c
 passed Hind (Some c) q = ltb c q
 
--- how many places are left
+-- how many seats are left
 abbrev pub ahead_of : Side → Option ℕ → ℕ
 ahead_of d None = 0
-ahead_of Fore (Some c) = 8192 - c
+ahead_of Fore (Some c) = PLACES - c
 ahead_of Hind (Some c) = c + 1
 
 -- o is the next after p that passes the test f, in the search's direction
@@ -74,16 +75,16 @@ pub next_there : (d : Side) (f : ℕ → Bool) (p q : ℕ) → Nexts d f p (Some
 next_there Fore f p q k = k.1
 next_there Hind f p q k = k.1
 
-pub fewer : (d : Side) (f : ℕ → Bool) (p : ℕ) (o : Option ℕ) → p < 8192 → Nexts d f p o → ahead_of d o < ahead_of d (Some p)
+pub fewer : (d : Side) (f : ℕ → Bool) (p : ℕ) (o : Option ℕ) → p < PLACES → Nexts d f p o → ahead_of d o < ahead_of d (Some p)
 fewer Fore f p None l k = omega arith
 fewer Hind f p None l k = omega arith
 fewer Fore f p (Some c) l k = omega (arith, k.0)
 fewer Hind f p (Some c) l k = omega (arith, k.0)
 
-pub some_left : (d : Side) (p : ℕ) → p < 8192 → 0 < ahead_of d (Some p)
+pub some_left : (d : Side) (p : ℕ) → p < PLACES → 0 < ahead_of d (Some p)
 some_left Fore p l = omega arith
 some_left Hind p l = omega arith
 
-pub few_left : (d : Side) (p : ℕ) → p < 8192 → ahead_of d (Some p) ≤ 8192
+pub few_left : (d : Side) (p : ℕ) → p < PLACES → ahead_of d (Some p) ≤ PLACES
 few_left Fore p l = omega arith
 few_left Hind p l = omega arith

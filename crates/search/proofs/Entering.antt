@@ -1,28 +1,28 @@
 -- A search comes to one slot more.
-use Rattle.std.proofs.Common.{◌≡◌, ℕ, ◌<◌, Bool, true, false, cond, not, ◌&&◌, ◌||◌, eqb, ◌⊎◌, List, sym, refl, ap, ◌∙◌, inl, inr, arith}
+use Rattle.std.proofs.Common.{◌≡◌, ℕ, ◌<◌, Bool, true, false, cond, not, ◌&&◌, ◌||◌, eqb, ◌⊎◌, List, [], ◌∷◌, refl, sym, ap, ◌∙◌, inl, inr, arith}
 use Rattle.std.proofs.lemmas.Bool.{both_ways, cases_Bool, cases_eq, or_cases, or_left, or_right, eq-eqb, eqb-true}
-use Rattle.row.specs.declared.board.Link.{Link}
-use Rattle.row.specs.Board.{◌⟶◌}
-use Rattle.row.specs.Columns.{cell, written, apart}
-use Rattle.row.specs.Layout.{places, slots}
+use Rattle.order.specs.Board.{◌⟶◌}
+use Rattle.memory.specs.declared.place_set.TheConstants.{PLACES}
+use Rattle.memory.specs.Columns.{cell, written, apart}
+use Rattle.memory.specs.Footprints.{Writes, clear}
+use Rattle.memory.specs.PlaceSets.{marked, fresh, added}
+use Rattle.memory.specs.PlaceSetLaws.{Summed}
+use Rattle.memory.proofs.Cells.{length_written, cell_same, cell_other, cell_apart}
+use Rattle.memory.proofs.Footprints.{put}
+use Rattle.memory.proofs.Adding.{adding}
+use Rattle.memory.proofs.Alone.{writes_added}
+use Rattle.row.specs.declared.layout.TheConstants.{SLOTS, SEATS}
 use Rattle.row.specs.Meaning.{used}
-use Rattle.row.proofs.Cells.{length_written, cell_same, cell_other, cell_apart}
-use Rattle.links.specs.Frames.{Alike}
-use Rattle.links.proofs.Sameness.{alike_refl, alike_trans, alike_written, holds_alike}
 use Rattle.search.specs.declared.side.Side.{Side}
 use Rattle.search.specs.declared.side.Side.TheVariants.{Fore, Hind}
-use Rattle.search.specs.Layout.{via}
-use Rattle.search.specs.Marks.{marked, fresh, added}
-use Rattle.search.specs.MarkLaws.{Summed}
+use Rattle.search.specs.declared.layout.TheConstants.{VIA}
+use Rattle.search.specs.Columns.{searched}
 use Rattle.search.specs.Sides.{marks_of, other}
 use Rattle.search.specs.Hunt.{sees, entered, part_of}
 use Rattle.search.specs.Meaning.{slot_board, slot_on, part}
-use Rattle.search.specs.HuntLaws.{Hunting}
-use Rattle.search.proofs.Adding.{adding}
-use Rattle.search.proofs.Frames.{only_added}
-use Rattle.search.proofs.Touching.{hunting_on, hunting_added, hunting_noted}
-use Rattle.search.proofs.Between.{origin, arc, comes, Setting, used_below, count_below, arc_tells, comes_on, part_tells}
-use Rattle.search.proofs.Sounding.{Sound, Grown, aside_marks, alike_only, marked_same, summed_same}
+use Rattle.search.proofs.Touching.{writes_marked}
+use Rattle.search.proofs.Between.{origin, arc, comes, Setting, used_tells, arc_tells, comes_on, part_tells}
+use Rattle.search.proofs.Sounding.{Sound, Grown, marked_same, summed_same}
 
 pub which : (d e : Side) → (e ≡ d) ⊎ (e ≡ other d)
 which Fore Fore = inl refl
@@ -34,42 +34,41 @@ pub never_both : (d e : Side) → e ≡ d → e ≡ other d → ⊥
 never_both Fore e p q = let z : ◌≡◌ {A = ℕ} 0 1 = cc in omega arith
 never_both Hind e p q = let z : ◌≡◌ {A = ℕ} 0 1 = cc in omega arith
 
-marks_apart : (d : Side) → (apart (marks_of d) (marks_of (other d)) ≡ true) × (apart (marks_of d) via ≡ true) × (apart via (marks_of d) ≡ true)
+marks_apart : (d : Side) → (clear (marks_of d ∷ []) (marks_of (other d)) ≡ true) × (clear (marks_of d ∷ []) VIA ≡ true) × (apart VIA (marks_of d) ≡ true)
 marks_apart Fore = (refl, refl, refl)
 marks_apart Hind = (refl, refl, refl)
 
-pub record Entered (m : List ℕ) (a b : ℕ) (was : ℕ → Link) (d : Side) (x t : ℕ) (n n' : List ℕ) : Type 0 where
-  pub sound : Sound m a b was n'
-  pub grown : Grown d (cell m places x) n n'
-  pub alike : Alike n n'
-  pub here : part m a b (cell m places t) ≡ true → marked n' (marks_of d) (cell m places t) ≡ true
+pub record Entered (m : List ℕ) (a b : ℕ) (d : Side) (x t : ℕ) (n n' : List ℕ) : Type 0 where
+  pub sound : Sound m a b n'
+  pub grown : Grown d (cell m SEATS x) n n'
+  pub here : part m a b (cell m SEATS t) ≡ true → marked n' (marks_of d) (cell m SEATS t) ≡ true
 
-module _ (m : List ℕ) (a b : ℕ) (S : Setting m a b) (was : ℕ → Link) (n : List ℕ) (s : Sound m a b was n) (d : Side) (x t : ℕ)
-    (ux : used m x ≡ true) (mx : marked n (marks_of d) (cell m places x) ≡ true) (k : arc (slot_board m) d x t ≡ true) where
+module _ (m : List ℕ) (a b : ℕ) (S : Setting m a b) (n : List ℕ) (s : Sound m a b n) (d : Side) (x t : ℕ)
+    (ux : used m x ≡ true) (mx : marked n (marks_of d) (cell m SEATS x) ≡ true) (k : arc (slot_board m) d x t ≡ true) where
   abbrev q : ℕ
-  q = cell m places t
+  q = cell m SEATS t
 
   abbrev n₁ : List ℕ
   n₁ = added n (marks_of d) q
 
   abbrev n' : List ℕ
-  n' = written n₁ via t x
+  n' = written n₁ VIA t x
 
   used_t : used m t ≡ true
   used_t = (arc_tells m a b S d x t k).1
 
   -- the place is new to both searches
   module _ (p : part m a b q ≡ true) (free : marked n (marks_of d) q ≡ false) (unseen : marked n (marks_of (other d)) q ≡ false) where
-    below : q < 8192
-    below = omega (arith, (part_tells m a b S q p).2, count_below m a b S)
+    below : q < PLACES
+    below = (part_tells m a b S q p).2
 
     cells_other : (j : ℕ) → cell n' (marks_of (other d)) j ≡ cell n (marks_of (other d)) j
     cells_other j =
-        cell_apart n₁ via (marks_of (other d)) t j x (marks_apart (other d)).2
-        ∙ (only_added n (marks_of d) q).others (marks_of (other d)) j (marks_apart d).0
+        cell_apart n₁ VIA (marks_of (other d)) t j x (marks_apart (other d)).2
+        ∙ (writes_added (marks_of d) n q).others (marks_of (other d)) j (marks_apart d).0
 
     cells_own : (j : ℕ) → cell n' (marks_of d) j ≡ cell n₁ (marks_of d) j
-    cells_own j = cell_apart n₁ via (marks_of d) t j x (marks_apart d).2
+    cells_own j = cell_apart n₁ VIA (marks_of d) t j x (marks_apart d).2
 
     own : (z : ℕ) → marked n' (marks_of d) z ≡ (eqb z q || marked n (marks_of d) z)
     own z = marked_same n₁ n' (marks_of d) cells_own z ∙ (adding n (marks_of d) q (s.summed d) below).2 z
@@ -95,39 +94,37 @@ module _ (m : List ℕ) (a b : ℕ) (S : Setting m a b) (was : ℕ → Link) (n 
     here : marked n' (marks_of d) q ≡ true
     here = own q ∙ or_left (eqb q q) (marked n (marks_of d) q) (eq-eqb q q refl)
 
-    alike : Alike n n'
-    alike = alike_trans n n₁ n' (alike_only (marks_of d) n n₁ (aside_marks d) (only_added n (marks_of d) q)) (alike_written n₁ via t x refl)
+    -- slots are small
+    frame : Writes searched m n'
+    frame = put searched m n₁ VIA t x refl (λ _. omega (arith, (used_tells m a b S x ux).0)) (writes_marked m n d q s.frame)
 
-    -- slots below 8,192 are small
-    frame : Hunting m n'
-    frame = hunting_noted m n₁ t x (hunting_on m n n₁ s.frame (hunting_added n d q)) (λ _. omega (arith, (used_below m a b S x ux).0))
+    via_new : cell n' VIA t ≡ x
+    via_new =
+        let l = (used_tells m a b S t used_t).0 in
+        cell_same n₁ VIA t x l (omega (arith, l, S.ready.fore_summed.lies, s.frame.as_long, (writes_added (marks_of d) n q).as_long))
 
-    via_new : cell n' via t ≡ x
-    via_new = cell_same n₁ via t x (used_below m a b S t used_t).0
-        (omega (arith, (used_below m a b S t used_t).0, S.ready.via_room, s.frame.as_long, (only_added n (marks_of d) q).long))
-
-    via_old : (u : ℕ) → (u ≡ t → ⊥) → cell n' via u ≡ cell n via u
-    via_old u h = cell_other n₁ via t u x h ∙ (only_added n (marks_of d) q).others via u (marks_apart d).1
+    via_old : (u : ℕ) → (u ≡ t → ⊥) → cell n' VIA u ≡ cell n VIA u
+    via_old u h = cell_other n₁ VIA t u x h ∙ (writes_added (marks_of d) n q).others VIA u (marks_apart d).1
 
     summed_new : (e : Side) → Summed n' (marks_of e)
     summed_new e = elim (which d e) [
-      | inl i ↦ rw i (summed_same n₁ n' (marks_of d) cells_own (length_written n₁ via t x) (adding n (marks_of d) q (s.summed d) below).0)
-      | inr i ↦ rw i (summed_same n n' (marks_of (other d)) cells_other alike.same.as_long (s.summed (other d)))
+      | inl i ↦ rw i (summed_same n₁ n' (marks_of d) cells_own (length_written n₁ VIA t x) (adding n (marks_of d) q (s.summed d) below).0)
+      | inr i ↦ rw i (summed_same n n' (marks_of (other d)) cells_other (length_written n₁ VIA t x ∙ (writes_added (marks_of d) n q).as_long) (s.summed (other d)))
     ]
 
     led_new : (e : Side) (z : ℕ) → (e ≡ d) × (z ≡ q) → comes (slot_board m) e (origin a b e) (slot_on m z) ≡ true
     led_new e z i =
-        let l = s.led d (cell m places x) mx in
-        let y = rw (used_below m a b S x ux).2 at l in
-        let h = (used_below m a b S t used_t).2 in
+        let l = s.led d (cell m SEATS x) mx in
+        let y = rw (used_tells m a b S x ux).2 at l in
+        let h = (used_tells m a b S t used_t).2 in
         rw (i.0, i.1, h) (comes_on m a b S d (origin a b d) x t y k)
 
-    trail_new : (e : Side) (u : ℕ) → used m u ≡ true → marked n' (marks_of e) (cell m places u) ≡ true → (u ≡ origin a b e) ⊎
-        ((used m (cell n' via u) ≡ true) × (marked n' (marks_of e) (cell m places (cell n' via u)) ≡ true) × (arc (slot_board m) e (cell n' via u) u ≡ true))
-    trail_new e u y h = elim (new e (cell m places u) h) [
+    trail_new : (e : Side) (u : ℕ) → used m u ≡ true → marked n' (marks_of e) (cell m SEATS u) ≡ true → (u ≡ origin a b e) ⊎
+        ((used m (cell n' VIA u) ≡ true) × (marked n' (marks_of e) (cell m SEATS (cell n' VIA u)) ≡ true) × (arc (slot_board m) e (cell n' VIA u) u ≡ true))
+    trail_new e u y h = elim (new e (cell m SEATS u) h) [
       | inr i ↦
-          let z : u ≡ t = sym (used_below m a b S u y).2 ∙ ap (cell m slots) i.1 ∙ (used_below m a b S t used_t).2 in
-          inr (rw (z, via_new, i.0) (ux, old d (cell m places x) mx, k))
+          let z : u ≡ t = sym (used_tells m a b S u y).2 ∙ ap (cell m SLOTS) i.1 ∙ (used_tells m a b S t used_t).2 in
+          inr (rw (z, via_new, i.0) (ux, old d (cell m SEATS x) mx, k))
       | inl o ↦ elim (cases_eq u t) [
         | inl z ↦ absurd (elim (which d e) [
           | inl i ↦ both_ways (marked n (marks_of d) q) free (rw (z, i) at o)
@@ -135,7 +132,7 @@ module _ (m : List ℕ) (a b : ℕ) (S : Setting m a b) (was : ℕ → Link) (n 
         ])
         | inr z ↦ elim (s.trail e u y o) [
           | inl i ↦ inl i
-          | inr i ↦ inr (rw (via_old u z) (i.0, old e (cell m places (cell n via u)) i.1, i.2))
+          | inr i ↦ inr (rw (via_old u z) (i.0, old e (cell m SEATS (cell n VIA u)) i.1, i.2))
         ]
       ]
     ]
@@ -155,14 +152,13 @@ module _ (m : List ℕ) (a b : ℕ) (S : Setting m a b) (was : ℕ → Link) (n 
       ]
     ]
 
-    marks_it : Entered m a b was d x t n n'
+    marks_it : Entered m a b d x t n n'
     marks_it = record {
       sound = record {
         frame = frame;
-        holds = holds_alike n n' alike was s.holds;
         summed = summed_new;
-        within = λ e z h. elim (new e z h) [ inl o ↦ s.within e z o | inr i ↦ rw i.1 p ];
-        start = λ e. old e (cell m places (origin a b e)) (s.start e);
+        within = λ e z h. elim (new e z h) [ inl o ↦ s.within e z o | inr i ↦ rw i.1 ((used_tells m a b S t used_t).1, p) ];
+        start = λ e. old e (cell m SEATS (origin a b e)) (s.start e);
         led = λ e z h. elim (new e z h) [ inl o ↦ s.led e z o | inr i ↦ led_new e z i ];
         trail = trail_new;
         alone = alone_new;
@@ -172,37 +168,38 @@ module _ (m : List ℕ) (a b : ℕ) (S : Setting m a b) (was : ℕ → Link) (n 
         same_other = not_own;
         beyond = λ z h. elim (new d z h) [ inl o ↦ inl o | inr i ↦ inr (rw i.1 (arc_tells m a b S d x t k).2) ];
       };
-      alike = alike;
       here = λ _. here;
     }
 
   -- nothing to do
-  stays_so : (part m a b q ≡ true → marked n (marks_of d) q ≡ true) → Entered m a b was d x t n n
+  stays_so : (part m a b q ≡ true → marked n (marks_of d) q ≡ true) → Entered m a b d x t n n
   stays_so h = record {
     sound = s;
     grown = record { stays = λ z e. e; same_other = λ z. refl; beyond = λ z e. inl e };
-    alike = alike_refl n;
     here = h;
   }
 
   abbrev w : ℕ → Bool
   w = part m a b
 
-  place_same : cell n places t ≡ q
-  place_same = s.frame.others places t refl
+  abbrev u : Bool
+  u = marked n (marks_of (other d)) q
 
-  entered_is : entered n d (part_of m (a ⟶ b)) x t ≡ cond (not (w q && marked n (marks_of (other d)) q) && (w q && fresh n (marks_of d) q)) n' n
-  unfolding entered sees
-  entered_is = rw place_same refl
+  seat_same : cell n SEATS t ≡ q
+  seat_same = s.frame.others SEATS t refl
 
-  pub seen_is : sees n d (part_of m (a ⟶ b)) t ≡ (w q && marked n (marks_of (other d)) q)
+  entered_is : entered n d (part_of m (a ⟶ b)) x t ≡ cond (w q && (not u && fresh n (marks_of d) q)) n' n
+  unfolding entered
+  entered_is = rw seat_same refl
+
+  pub seen_is : sees n d (part_of m (a ⟶ b)) t ≡ (w q && u)
   unfolding sees
-  seen_is = rw place_same refl
+  seen_is = rw seat_same refl
 
   pub entered_seen : sees n d (part_of m (a ⟶ b)) t ≡ true → entered n d (part_of m (a ⟶ b)) x t ≡ n
   entered_seen h = let e = sym seen_is ∙ h in let i = entered_is in grind arith
 
-  pub enters : sees n d (part_of m (a ⟶ b)) t ≡ false → Entered m a b was d x t n (entered n d (part_of m (a ⟶ b)) x t)
+  pub enters : sees n d (part_of m (a ⟶ b)) t ≡ false → Entered m a b d x t n (entered n d (part_of m (a ⟶ b)) x t)
   enters h =
       let v = sym seen_is ∙ h in
       elim (cases_Bool (w q)) [
@@ -210,9 +207,8 @@ module _ (m : List ℕ) (a b : ℕ) (S : Setting m a b) (was : ℕ → Link) (n 
             let i : entered n d (part_of m (a ⟶ b)) x t ≡ n = let j = entered_is in grind arith in
             rw i (stays_so (λ y. absurd (both_ways (w q) f y)))
         | inl y ↦
-            let unseen : marked n (marks_of (other d)) q ≡ false = grind arith in
-            let l : q < 8192 = omega (arith, (part_tells m a b S q y).2, count_below m a b S) in
-            let fr = (adding n (marks_of d) q (s.summed d) l).1 in
+            let unseen : u ≡ false = grind arith in
+            let fr = (adding n (marks_of d) q (s.summed d) (part_tells m a b S q y).2).1 in
             elim (cases_Bool (marked n (marks_of d) q)) [
               | inl o ↦
                   let i : entered n d (part_of m (a ⟶ b)) x t ≡ n = let j = entered_is in grind arith in

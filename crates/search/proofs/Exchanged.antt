@@ -1,11 +1,11 @@
 -- A function with other values at some numbers, given by two lists.
-use Rattle.std.proofs.Common.{◌≡◌, ℕ, zero, suc, ◌+◌, ◌<◌, ◌≤◌, Bool, true, false, cond, not, eqb, List, [], ◌∷◌, map, length, sym, refl, ap, ◌∙◌, ap₂, inl, inr, arith}
-use Rattle.std.specs.List.{range_with_len}
+use Rattle.std.proofs.Common.{◌≡◌, ℕ, Bool, true, false, cond, not, eqb, List, [], ◌∷◌, map, length, sym, refl, ap, ◌∙◌, ap₂, inl, inr, arith}
 use Rattle.std.proofs.lemmas.Bool.{cases_Bool, eq-eqb, ne_eqb, eqb-true, both_ways, and_parts, not-true, or_parts, or_left, or_right}
-use Rattle.row.specs.Lists.{any, filter, has, distinct}
-use Rattle.row.proofs.Tabulated.{made_same}
-use Rattle.row.proofs.Refill.{refill, refill_skip}
-use Rattle.search.proofs.Listed.{in_filter}
+use Rattle.order.specs.Lists.{any, filter, has, distinct}
+use Rattle.order.proofs.Filters.{has_filter}
+use Rattle.order.proofs.Members.{has_head, has_tail, not_again, distinct_tail}
+use Rattle.order.proofs.Refill.{refill, refill_skip}
+use Rattle.search.proofs.Mapped.{map_same}
 
 -- g with k at p
 abbrev pub with_at : (ℕ → ℕ) → ℕ → ℕ → ℕ → ℕ
@@ -82,44 +82,41 @@ refill_here : (T : ℕ → Bool) (k : ℕ) (ks : List ℕ) (x : ℕ) (xs : List 
 unfolding refill
 refill_here T k ks x xs e = rw e
 
-module _ (T M : ℕ → Bool) where
-  abbrev those : ℕ → ℕ → List ℕ
-  those a n = filter M (range_with_len a n)
+filter_here : (M : ℕ → Bool) (x : ℕ) (xs : List ℕ) → M x ≡ true → filter M (x ∷ xs) ≡ x ∷ filter M xs
+unfolding filter
+filter_here M x xs e = rw e
 
-  -- one that is before the part is not in it
-  those_from : (g : ℕ → ℕ) (ks : List ℕ) (a n : ℕ) → exchanged g (those (a + 1) n) ks a ≡ g a
-  those_from g ks a n = exchanged_out g (those (a + 1) n) ks a (elim (cases_Bool (has (those (a + 1) n) a)) [
-    | inl e ↦ absurd (let c = in_filter M (a + 1) n a e in omega arith)
-    | inr e ↦ e
-  ])
+filter_past : (M : ℕ → Bool) (x : ℕ) (xs : List ℕ) → M x ≡ false → filter M (x ∷ xs) ≡ filter M xs
+unfolding filter
+filter_past M x xs e = rw e
 
-  those_here : (a n : ℕ) → M a ≡ true → those a (suc n) ≡ a ∷ those (a + 1) n
-  unfolding filter
-  those_here a n e = rw e
+pub exchanged_made : (T M : ℕ → Bool) (g : ℕ → ℕ) (ks xs : List ℕ) → distinct xs ≡ true → ((p : ℕ) → has xs p ≡ true → M p ≡ T (g p)) →
+    map (exchanged g (filter M xs) ks) xs ≡ refill T ks (map g xs)
+unfolding refill exchanged
+exchanged_made T M g ks [] d t = refl
+exchanged_made T M g [] (x ∷ xs) d t =
+    map_same (exchanged g (filter M (x ∷ xs)) []) g (x ∷ xs) (λ p h. exchanged_none g (filter M (x ∷ xs)) p) ∙ sym (refill_none T _)
+exchanged_made T M g (k ∷ ks) (x ∷ xs) d t = elim (cases_Bool (M x)) [
+  | inl e ↦
+      let else_same : (p : ℕ) → has xs p ≡ true → with_at g x k p ≡ g p = λ p h. at_else g x k p (λ i. again p h i) in
+      let ih = exchanged_made T M (with_at g x k) ks xs d₁ (λ p h. t p (has_tail x xs p h) ∙ ap T (sym (else_same p h))) in
+      let hd = exchanged_out (with_at g x k) (filter M xs) ks x none ∙ at_here g x k x refl in
+      let v : T (g x) ≡ true = sym (t x (has_head x xs)) ∙ e in
+      ap (λ (zs : List ℕ). map (exchanged g zs (k ∷ ks)) (x ∷ xs)) (filter_here M x xs e)
+      ∙ ap₂ ◌∷◌ hd (ih ∙ ap (refill T ks) (map_same (with_at g x k) g xs else_same)) ∙ sym (refill_here T k ks (g x) (map g xs) v)
+  | inr e ↦
+      let ih = exchanged_made T M g (k ∷ ks) xs d₁ (λ p h. t p (has_tail x xs p h)) in
+      let hd = exchanged_out g (filter M xs) (k ∷ ks) x none in
+      let v : T (g x) ≡ false = sym (t x (has_head x xs)) ∙ e in
+      ap (λ (zs : List ℕ). map (exchanged g zs (k ∷ ks)) (x ∷ xs)) (filter_past M x xs e)
+      ∙ ap₂ ◌∷◌ hd ih ∙ sym (refill_skip T (k ∷ ks) (g x) (map g xs) v)
+]
+  where
+    d₁ : distinct xs ≡ true
+    d₁ = distinct_tail x xs d
 
-  those_on : (a n : ℕ) → M a ≡ false → those a (suc n) ≡ those (a + 1) n
-  unfolding filter
-  those_on a n e = rw e
+    none : has (filter M xs) x ≡ false
+    none = let a = not_again x xs d in let f = has_filter M xs x in grind arith
 
-  pub exchanged_made : (g : ℕ → ℕ) (ks : List ℕ) (a n : ℕ) → ((p : ℕ) → a ≤ p → p < a + n → M p ≡ T (g p)) →
-      map (exchanged g (those a n) ks) (range_with_len a n) ≡ refill T ks (map g (range_with_len a n))
-  unfolding refill exchanged
-  exchanged_made g ks a zero t = refl
-  exchanged_made g [] a (suc n) t =
-      made_same (exchanged g (those a (suc n)) []) g a (suc n) (λ p l u. exchanged_none g (those a (suc n)) p) ∙ sym (refill_none T _)
-  exchanged_made g (k ∷ ks) a (suc n) t = elim (cases_Bool (M a)) [
-    | inl e ↦
-        let ih = exchanged_made (with_at g a k) ks (a + 1) n
-        (λ p l u. t p (omega arith) (omega arith) ∙ ap T (sym (at_else g a k p (λ z. omega arith)))) in
-        let hd = those_from (with_at g a k) ks a n ∙ at_here g a k a refl in
-        let s = made_same (with_at g a k) g (a + 1) n (λ p l u. at_else g a k p (λ z. omega arith)) in
-        let v : T (g a) ≡ true = sym (t a (omega arith) (omega arith)) ∙ e in
-        ap (λ (zs : List ℕ). map (exchanged g zs (k ∷ ks)) (range_with_len a (suc n))) (those_here a n e)
-        ∙ ap₂ ◌∷◌ hd (ih ∙ ap (refill T ks) s) ∙ sym (refill_here T k ks (g a) (map g (range_with_len (a + 1) n)) v)
-    | inr e ↦
-        let ih = exchanged_made g (k ∷ ks) (a + 1) n (λ p l u. t p (omega arith) (omega arith)) in
-        let hd = those_from g (k ∷ ks) a n in
-        let v : T (g a) ≡ false = sym (t a (omega arith) (omega arith)) ∙ e in
-        ap (λ (zs : List ℕ). map (exchanged g zs (k ∷ ks)) (range_with_len a (suc n))) (those_on a n e)
-        ∙ ap₂ ◌∷◌ hd ih ∙ sym (refill_skip T (k ∷ ks) (g a) (map g (range_with_len (a + 1) n)) v)
-  ]
+    again : (p : ℕ) → has xs p ≡ true → p ≡ x → ⊥
+    again p h i = both_ways (has xs x) (not_again x xs d) (ap (has xs) (sym i) ∙ h)

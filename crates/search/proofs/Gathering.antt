@@ -1,15 +1,20 @@
--- The slots at the marked places are written to `chosen`, one after another.
-use Rattle.std.proofs.Common.{◌≡◌, ℕ, zero, suc, ◌+◌, ◌<◌, ◌≤◌, Bool, true, List, [], ◌∷◌, ◌++◌, map, length, Some, None, Option, sym, refl, ap, ◌∙◌, ap₂, add-zero, arith}
-use Rattle.row.specs.declared.column.Column.{Column}
-use Rattle.row.specs.Columns.{cell, written, apart}
-use Rattle.row.specs.Layout.{slots}
-use Rattle.row.proofs.Cells.{length_written, cell_same, cell_other, cell_apart}
-use Rattle.search.specs.Layout.{chosen}
-use Rattle.search.specs.Marks.{marked, next_up, first_mark}
-use Rattle.search.specs.MarkLaws.{Summed}
+-- The slots at the marked seats are written to CHOSEN, one after another.
+use Rattle.std.proofs.Common.{◌≡◌, ℕ, zero, suc, ◌+◌, ◌^◌, ◌<◌, ◌≤◌, Bool, true, List, [], ◌∷◌, ◌++◌, map, length, Some, None, Option, sym, refl, ap, ◌∙◌, ap₂, add-zero, arith}
+use Rattle.order.specs.declared.board.TheConstants.{CARDS}
+use Rattle.order.specs.Lists.{has}
+use Rattle.order.proofs.Members.{has_head, has_tail}
+use Rattle.memory.specs.declared.column.Column.{Column}
+use Rattle.memory.specs.Columns.{cell, written, apart}
+use Rattle.row.specs.declared.layout.TheConstants.{SLOTS}
+use Rattle.memory.specs.Footprints.{clear, Writes}
+use Rattle.memory.proofs.Footprints.{same, on, put_one}
+use Rattle.memory.proofs.Cells.{length_written, cell_same, cell_other, cell_apart}
+use Rattle.search.specs.declared.layout.TheConstants.{CHOSEN}
+use Rattle.memory.specs.PlaceSets.{marked, next_up, first_mark}
+use Rattle.memory.specs.PlaceSetLaws.{Summed, CellsAlone}
 use Rattle.search.specs.Settle.{gathered, gathers}
-use Rattle.search.proofs.Frames.{cells_alone}
-use Rattle.search.proofs.Upward.{going_up, first_of_all}
+use Rattle.memory.proofs.Alone.{cells_alone}
+use Rattle.memory.proofs.Upward.{going_up, first_of_all}
 use Rattle.search.proofs.Listed.{From, Lists, from_after, from_least, from_list}
 use Rattle.search.proofs.SettleSteps.{all}
 
@@ -19,9 +24,13 @@ pub record Marking (m : List ℕ) (c : Column) (T : ℕ → Bool) : Type 0 where
   pub marks : (p : ℕ) → marked m c p ≡ T p
 
 pub marking_same : (m n : List ℕ) (c : Column) (T : ℕ → Bool) → length n ≡ length m → ((j : ℕ) → cell n c j ≡ cell m c j) → Marking m c T → Marking n c T
+unfolding CellsAlone
 marking_same m n c T l e k =
     let a = cells_alone m n c e in
     record { summed = a.1 (rw l k.summed.lies) k.summed; marks = λ p. a.0 p ∙ k.marks p }
+
+pub marking_kept : (fs : List Column) (m n : List ℕ) (c : Column) (T : ℕ → Bool) → Writes fs m n → clear fs c ≡ true → Marking m c T → Marking n c T
+marking_kept fs m n c T w e k = marking_same m n c T w.as_long (λ j. w.others c j e) k
 
 pub marking_written : (m : List ℕ) (c d : Column) (i v : ℕ) (T : ℕ → Bool) → apart d c ≡ true → Marking m c T → Marking (written m d i v) c T
 marking_written m c d i v T a k = marking_same m (written m d i v) c T (length_written m d i v) (λ j. cell_apart m d c i j v a) k
@@ -33,60 +42,57 @@ module _ (m : List ℕ) (c : Column) (T : ℕ → Bool) (k : Marking m c T) wher
   pub from_first : From T 0 (first_mark m c)
   from_first = from_least (marked m c) T (first_mark m c) k.marks (first_of_all m c k.summed)
 
--- the numbers ks written to `chosen` from the index i on
+-- the numbers ks written to CHOSEN from the index i on
 unfoldable pub wrote : List ℕ → ℕ → List ℕ → List ℕ
 wrote m i [] = m
-wrote m i (k ∷ ks) = wrote (written m chosen i k) (i + 1) ks
+wrote m i (k ∷ ks) = wrote (written m CHOSEN i k) (i + 1) ks
 
 pub wrote_append : (m : List ℕ) (i j : ℕ) (ks js : List ℕ) → i + length ks ≡ j → wrote m i (ks ++ js) ≡ wrote (wrote m i ks) j js
 unfolding wrote
 wrote_append m i j [] js e = ap (λ (x : ℕ). wrote m x js) (let z : i ≡ j = omega arith in z)
-wrote_append m i j (k ∷ ks) js e = wrote_append (written m chosen i k) (i + 1) j ks js (omega arith)
+wrote_append m i j (k ∷ ks) js e = wrote_append (written m CHOSEN i k) (i + 1) j ks js (omega arith)
 
-pub length_wrote : (m : List ℕ) (i : ℕ) (ks : List ℕ) → length (wrote m i ks) ≡ length m
+pub writes_wrote : (m : List ℕ) (i : ℕ) (ks : List ℕ) → ((k : ℕ) → has ks k ≡ true → k < 2 ^ 64) → Writes (CHOSEN ∷ []) m (wrote m i ks)
 unfolding wrote
-length_wrote m i [] = refl
-length_wrote m i (k ∷ ks) = length_wrote (written m chosen i k) (i + 1) ks ∙ length_written m chosen i k
+writes_wrote m i [] h = same (CHOSEN ∷ []) m
+writes_wrote m i (k ∷ ks) h =
+    on (CHOSEN ∷ []) m (written m CHOSEN i k) (wrote (written m CHOSEN i k) (i + 1) ks) (put_one m CHOSEN i k (λ s. h k (has_head k ks)))
+    (writes_wrote (written m CHOSEN i k) (i + 1) ks (λ s e. h s (has_tail k ks s e)))
 
-pub wrote_apart : (m : List ℕ) (i : ℕ) (ks : List ℕ) (d : Column) (j : ℕ) → apart chosen d ≡ true → cell (wrote m i ks) d j ≡ cell m d j
-unfolding wrote
-wrote_apart m i [] d j a = refl
-wrote_apart m i (k ∷ ks) d j a = wrote_apart (written m chosen i k) (i + 1) ks d j a ∙ cell_apart m chosen d i j k a
-
--- what stands in `chosen` from the index i on
+-- what stands in CHOSEN from the index i on
 abbrev pub Reads : List ℕ → ℕ → List ℕ → Type 0
 Reads m i [] = Unit {0}
-Reads m i (k ∷ ks) = (cell m chosen i ≡ k) × Reads m (i + 1) ks
+Reads m i (k ∷ ks) = (cell m CHOSEN i ≡ k) × Reads m (i + 1) ks
 
-wrote_before : (m : List ℕ) (i : ℕ) (ks : List ℕ) (j : ℕ) → j < i → cell (wrote m i ks) chosen j ≡ cell m chosen j
+wrote_before : (m : List ℕ) (i : ℕ) (ks : List ℕ) (j : ℕ) → j < i → cell (wrote m i ks) CHOSEN j ≡ cell m CHOSEN j
 unfolding wrote
 wrote_before m i [] j l = refl
-wrote_before m i (k ∷ ks) j l = wrote_before (written m chosen i k) (i + 1) ks j (omega arith) ∙ cell_other m chosen i j k (λ z. omega arith)
+wrote_before m i (k ∷ ks) j l = wrote_before (written m CHOSEN i k) (i + 1) ks j (omega arith) ∙ cell_other m CHOSEN i j k (λ z. omega arith)
 
-pub wrote_reads : (m : List ℕ) (i : ℕ) (ks : List ℕ) → 477968 ≤ length m → i + length ks ≤ 8192 → Reads (wrote m i ks) i ks
+pub wrote_reads : (m : List ℕ) (i : ℕ) (ks : List ℕ) → CHOSEN.base + CHOSEN.size ≤ length m → i + length ks ≤ CARDS → Reads (wrote m i ks) i ks
 unfolding wrote
 wrote_reads m i [] l r = tt
 wrote_reads m i (k ∷ ks) l r = (
-  wrote_before (written m chosen i k) (i + 1) ks i (omega arith) ∙ cell_same m chosen i k (omega arith) (omega arith),
-  wrote_reads (written m chosen i k) (i + 1) ks (rw (length_written m chosen i k) l) (omega arith),
+  wrote_before (written m CHOSEN i k) (i + 1) ks i (omega arith) ∙ cell_same m CHOSEN i k (omega arith) (omega arith),
+  wrote_reads (written m CHOSEN i k) (i + 1) ks (rw (length_written m CHOSEN i k) l) (omega arith),
 )
 
--- the loop writes the slots of the list of marked places
+-- the loop writes the SLOTS of the list of marked SEATS
 gathered_none : (f : ℕ) (m : List ℕ) (c : Column) (i : ℕ) → gathered f m c None i ≡ all m i
 unfolding gathered
 gathered_none zero m c i = refl
 gathered_none (suc f) m c i = refl
 
 abbrev next_memory : List ℕ → ℕ → ℕ → List ℕ
-next_memory m i p = written m chosen i (cell m slots p)
+next_memory m i p = written m CHOSEN i (cell m SLOTS p)
 
 gathered_some : (f : ℕ) (m : List ℕ) (c : Column) (p i : ℕ) →
     gathered (suc f) m c (Some p) i ≡ gathered f (next_memory m i p) c (next_up (next_memory m i p) c p) (i + 1)
 unfolding gathered
 gathered_some f m c p i = refl
 
-module _ (c : Column) (ap_c : apart chosen c ≡ true) (T : ℕ → Bool) (slot : ℕ → ℕ) where
-  gathered_list : (f : ℕ) (m : List ℕ) (q : ℕ) (qs : List ℕ) (o : Option ℕ) (i : ℕ) → Marking m c T → ((p : ℕ) → cell m slots p ≡ slot p) →
+module _ (c : Column) (ap_c : apart CHOSEN c ≡ true) (T : ℕ → Bool) (slot : ℕ → ℕ) where
+  gathered_list : (f : ℕ) (m : List ℕ) (q : ℕ) (qs : List ℕ) (o : Option ℕ) (i : ℕ) → Marking m c T → ((p : ℕ) → cell m SLOTS p ≡ slot p) →
       Lists T q qs → From T q o → length qs ≤ f → gathered f m c o i ≡ all (wrote m i (map slot qs)) (i + length qs)
   unfolding wrote
   gathered_list f m q [] o i k s l e h =
@@ -94,13 +100,13 @@ module _ (c : Column) (ap_c : apart chosen c ≡ true) (T : ℕ → Bool) (slot 
   gathered_list zero m q (x ∷ qs) o i k s l e h = absurd (omega arith)
   gathered_list (suc f) m q (x ∷ qs) o i k s l e h =
       let m₁ = next_memory m i x in
-      let k₁ = marking_written m c chosen i (cell m slots x) T ap_c k in
-      let ih = gathered_list f m₁ (x + 1) qs (next_up m₁ c x) (i + 1) k₁ (λ p. cell_apart m chosen slots i p (cell m slots x) refl ∙ s p)
+      let k₁ = marking_written m c CHOSEN i (cell m SLOTS x) T ap_c k in
+      let ih = gathered_list f m₁ (x + 1) qs (next_up m₁ c x) (i + 1) k₁ (λ p. cell_apart m CHOSEN SLOTS i p (cell m SLOTS x) refl ∙ s p)
       l.1 (from_next m₁ c T k₁ x) (omega arith) in
       ap (λ (z : Option ℕ). gathered (suc f) m c z i) (from_list T q (x ∷ qs) o l e) ∙ gathered_some f m c x i ∙ ih
-      ∙ ap₂ all (ap (λ (z : ℕ). wrote (written m chosen i z) (i + 1) (map slot qs)) (s x)) (omega arith)
+      ∙ ap₂ all (ap (λ (z : ℕ). wrote (written m CHOSEN i z) (i + 1) (map slot qs)) (s x)) (omega arith)
 
-  pub gathers_list : (m : List ℕ) (qs : List ℕ) (i : ℕ) → Marking m c T → ((p : ℕ) → cell m slots p ≡ slot p) → Lists T 0 qs → length qs ≤ 8192 →
+  pub gathers_list : (m : List ℕ) (qs : List ℕ) (i : ℕ) → Marking m c T → ((p : ℕ) → cell m SLOTS p ≡ slot p) → Lists T 0 qs → length qs ≤ CARDS →
       gathers m c i ≡ all (wrote m i (map slot qs)) (i + length qs)
   unfolding gathers
-  gathers_list m qs i k s l h = gathered_list 8192 m 0 qs (first_mark m c) i k s l (from_first m c T k) h
+  gathers_list m qs i k s l h = gathered_list CARDS m 0 qs (first_mark m c) i k s l (from_first m c T k) h

@@ -1,10 +1,10 @@
 -- The numbers that pass a test, from one on, as a list: going from each to the next goes through that list.
-use Rattle.std.proofs.Common.{◌≡◌, ℕ, zero, suc, ◌+◌, ◌<◌, ◌≤◌, min, Bool, true, false, ◌||◌, eqb, List, [], ◌∷◌, length, Some, None, Option, sym, refl, ap, ◌∙◌, inl, inr, arith}
+use Rattle.std.proofs.Common.{◌≡◌, ℕ, zero, suc, ◌+◌, ◌<◌, ◌≤◌, min, Bool, true, false, ◌||◌, eqb, List, [], ◌∷◌, Some, None, Option, sym, refl, ap, ◌∙◌, inl, inr, arith}
 use Rattle.std.specs.List.{range_with_len}
-use Rattle.std.proofs.lemmas.Bool.{cases_Bool, cases_eq, cases_lt, cases_order, eqb-true, eq-eqb, both_ways, and_parts, and_from, or_left, or_right, or_from}
-use Rattle.row.specs.Lists.{any, filter, has, distinct}
-use Rattle.row.proofs.Filters.{has_filter, distinct_filter}
-use Rattle.search.specs.MarkLaws.{JustAfter, Least}
+use Rattle.std.proofs.lemmas.Bool.{cases_Bool, cases_eq, cases_lt, cases_order, eqb-true, both_ways, and_parts, or_left, or_right, or_from}
+use Rattle.order.specs.Lists.{any, filter, has, distinct}
+use Rattle.order.proofs.Filters.{has_filter, distinct_filter}
+use Rattle.memory.specs.PlaceSetLaws.{JustAfter, Least}
 use Rattle.search.specs.Settle.{sooner}
 
 -- o is the first number from p on that passes f, or there is none
@@ -79,22 +79,11 @@ counting_has a (suc n) k h = elim (cases_Bool (eqb k a)) [
   | inr e ↦ let ih = counting_has (a + 1) n k (grind arith) in (omega arith, omega arith)
 ]
 
-pub has_counting : (a n k : ℕ) → a ≤ k → k < a + n → has (range_with_len a n) k ≡ true
-unfolding any
-has_counting a zero k l u = absurd (omega arith)
-has_counting a (suc n) k l u = elim (cases_eq k a) [
-  | inl e ↦ or_left _ _ (eq-eqb k a e)
-  | inr e ↦ or_right (eqb k a) _ (has_counting (a + 1) n k (omega arith) (omega arith))
-]
-
 pub in_filter : (f : ℕ → Bool) (a n k : ℕ) → has (filter f (range_with_len a n)) k ≡ true → (a ≤ k) × (k < a + n) × (f k ≡ true)
 in_filter f a n k h =
     let s = and_parts (f k) (has (range_with_len a n) k) (sym (has_filter f (range_with_len a n) k) ∙ h) in
     let c = counting_has a n k s.1 in
     (c.0, c.1, s.0)
-
-pub filter_has : (f : ℕ → Bool) (a n k : ℕ) → a ≤ k → k < a + n → f k ≡ true → has (filter f (range_with_len a n)) k ≡ true
-filter_has f a n k l u e = has_filter f (range_with_len a n) k ∙ and_from _ _ e (has_counting a n k l u)
 
 pub counting_once : (a n : ℕ) → distinct (range_with_len a n) ≡ true
 unfolding distinct
@@ -106,8 +95,3 @@ counting_once a (suc n) = elim (cases_Bool (has (range_with_len (a + 1) n) a)) [
 
 pub filter_once : (f : ℕ → Bool) (a n : ℕ) → distinct (filter f (range_with_len a n)) ≡ true
 filter_once f a n = distinct_filter f (range_with_len a n) (counting_once a n)
-
-pub filter_few : (f : ℕ → Bool) (a n : ℕ) → length (filter f (range_with_len a n)) ≤ n
-unfolding filter
-filter_few f a zero = omega arith
-filter_few f a (suc n) = let ih = filter_few f (a + 1) n in grind arith

@@ -1,24 +1,20 @@
--- Fuel: how many entries a key has, and what all keys that are left have in all.
-use Rattle.std.proofs.Common.{◌≡◌, ℕ, zero, suc, ◌+◌, ◌<◌, ◌≤◌, Bool, true, false, cond, eqb, sym, refl, ap, ◌∙◌, inl, inr, arith}
+-- Fuel: how many links a key has, and what all keys that are left have in all.
+use Rattle.std.proofs.Common.{◌≡◌, ℕ, zero, suc, ◌+◌, ◌<◌, ◌≤◌, Bool, true, false, cond, eqb, List, [], ◌∷◌, length, sym, refl, ap, ◌∙◌, inl, inr, arith}
+use Rattle.order.specs.declared.board.Link.{Link}
+use Rattle.order.specs.Lists.{filter}
 use Rattle.std.proofs.lemmas.Bool.{both_ways, cases_Bool, cases_eq, eq-eqb, ne_eqb}
 
--- the entries below e of the key k
-unfoldable pub entries : (ℕ → ℕ) → ℕ → ℕ → ℕ
-entries g k zero = 0
-entries g k (suc e) = entries g k e + cond (eqb (g e) k) 1 0
+-- the links of the key k
+unfoldable pub entries : (Link → ℕ) → ℕ → List Link → ℕ
+entries g k [] = 0
+entries g k (l ∷ ls) = entries g k ls + cond (eqb (g l) k) 1 0
 
-pub entries_more : (g : ℕ → ℕ) (k e y : ℕ) → y ≤ e → entries g k y ≤ entries g k e
-unfolding entries
-entries_more g k zero y l = let z : y ≡ 0 = omega arith in rw z (omega arith)
-entries_more g k (suc e) y l = elim (cases_eq y (suc e)) [
-  | inl q ↦ rw q (omega arith)
-  | inr q ↦ let ih = entries_more g k e y (omega arith) in omega arith
-]
-
--- an entry of the key is one more
-pub entries_own : (g : ℕ → ℕ) (k e y : ℕ) → g e ≡ k → y ≤ e → entries g k y < entries g k (suc e)
-unfolding entries
-entries_own g k e y o l = let m = entries_more g k e y l in rw (eq-eqb (g e) k o) (omega arith)
+pub entries_are : (g : Link → ℕ) (k : ℕ) (ls : List Link) → length (filter (λ l. eqb (g l) k) ls) ≡ entries g k ls
+unfolding entries filter
+entries_are g k [] = refl
+entries_are g k (l ∷ ls) =
+    let ih = entries_are g k ls in
+    elim (cases_Bool (eqb (g l) k)) [ inl e ↦ rw e (omega arith) | inr e ↦ rw e (omega arith) ]
 
 -- what the keys below n that aren't passed weigh
 unfoldable pub weight : (ℕ → ℕ) → (ℕ → Bool) → ℕ → ℕ
@@ -50,7 +46,7 @@ weight_passed v X Y (suc n) k h l x y = elim (cases_eq k n) [
       elim (cases_Bool (X n)) [ inl z ↦ rw (z, t z) (omega arith) | inr z ↦ elim (cases_Bool (Y n)) [ inl u ↦ rw (z, u) (omega arith) | inr u ↦ rw (z, u) (omega arith) ] ]
 ]
 
--- all keys together have each entry once at most
+-- all keys together have each link once at most
 abbrev none : ℕ → Bool
 none k = false
 
@@ -82,28 +78,23 @@ unfolding weight
 weight_zeros zero = refl
 weight_zeros (suc n) = let ih = weight_zeros n in omega arith
 
-weight_entries : (g : ℕ → ℕ) (n e : ℕ) → weight (λ k. entries g k e) none n ≤ e
+weight_entries : (g : Link → ℕ) (n : ℕ) (ls : List Link) → weight (λ k. entries g k ls) none n ≤ length ls
 unfolding entries
-weight_entries g n zero = let z = weight_zeros n in omega arith
-weight_entries g n (suc e) =
-    let ih = weight_entries g n e in
-    let s = weight_sum (λ k. entries g k e) (λ k. cond (eqb (g e) k) 1 0) none n in
-    let o = at_most_one (g e) n in
+weight_entries g n [] = let z = weight_zeros n in omega arith
+weight_entries g n (l ∷ ls) =
+    let ih = weight_entries g n ls in
+    let s = weight_sum (λ k. entries g k ls) (λ k. cond (eqb (g l) k) 1 0) none n in
+    let o = at_most_one (g l) n in
     omega arith
 
--- what a key costs: its entries, and the end of its chain
-abbrev pub cost : (ℕ → ℕ) → ℕ → ℕ → ℕ
-cost g e k = entries g k e + 1
+-- what a key costs: its links, and the end of its chain
+abbrev pub cost : (Link → ℕ) → List Link → ℕ → ℕ
+cost g ls k = entries g k ls + 1
 
-pub weight_all : (g : ℕ → ℕ) (X : ℕ → Bool) (n e : ℕ) → weight (cost g e) X n ≤ e + n
-weight_all g X n e =
-    let a = weight_less (cost g e) none X n (λ k l x. absurd (both_ways false refl x)) in
-    let s = weight_sum (λ k. entries g k e) (λ k. 1) none n in
-    let b = weight_entries g n e in
+pub weight_all : (g : Link → ℕ) (X : ℕ → Bool) (n : ℕ) (ls : List Link) → weight (cost g ls) X n ≤ length ls + n
+weight_all g X n ls =
+    let a = weight_less (cost g ls) none X n (λ k l x. absurd (both_ways false refl x)) in
+    let s = weight_sum (λ k. entries g k ls) (λ k. 1) none n in
+    let b = weight_entries g n ls in
     let c = weight_ones n in
     omega arith
-
-pub weight_none : (v : ℕ → ℕ) (X : ℕ → Bool) (n : ℕ) → ((k : ℕ) → k < n → X k ≡ true) → weight v X n ≡ 0
-unfolding weight
-weight_none v X zero h = refl
-weight_none v X (suc n) h = let ih = weight_none v X n (λ k l. h k (omega arith)) in rw (h n (omega arith)) (omega arith)

@@ -1,98 +1,125 @@
--- The links of the board and the entries of the table: an entry that lives in a slot's chain is a link, and each link is such an entry.
-use Rattle.std.proofs.Common.{◌≡◌, ℕ, zero, suc, ◌<◌, Bool, true, false, ◌&&◌, ◌||◌, eqb, ◌⊎◌, List, [], ◌∷◌, sym, refl, ap, ◌∙◌, inl, inr, arith}
+-- What a search meets in the chain of a slot: just the slots that it is linked to, one for each link.
+use Rattle.std.proofs.Common.{◌≡◌, ℕ, zero, suc, ◌+◌, ◌<◌, ◌≤◌, Bool, ◌&&◌, ◌||◌, eqb, List, [], ◌∷◌, map, reverse, length, Some, None, Option, sym, refl, ap, ◌∙◌, inl, inr, arith}
+use mathlib.Core.List.{reverse_aux}
+use Rattle.std.proofs.lemmas.Bool.{cases_Bool}
 use Rattle.std.proofs.lemmas.Bool.Decides.{nat_tests}
-use Rattle.std.proofs.lemmas.Bool.{cases_Bool, cases_eq, both_ways, and_parts, and_from, or_cases, or_left, or_right, eq-eqb, eqb-true}
-use Rattle.row.specs.declared.board.Link.{Link}
-use Rattle.row.specs.Lists.{any, has}
-use Rattle.row.specs.Columns.{cell}
-use Rattle.links.specs.Layout.{end, froms, tos}
-use Rattle.links.specs.Chains.{dead}
-use Rattle.links.specs.Entries.{key, link_at}
-use Rattle.links.specs.Skips.{put, living}
-use Rattle.links.specs.Meaning.{edges_of}
-use Rattle.links.proofs.Edging.{any_append, edges_more, edges_less}
+use Rattle.std.proofs.lemmas.List.{length-map, length-reverse}
+use Rattle.order.specs.declared.board.TheConstants.{CARDS}
+use Rattle.order.specs.declared.board.Link.{Link}
+use Rattle.order.specs.Lists.{any, has, filter}
+use Rattle.memory.specs.Columns.{cell}
+use Rattle.memory.specs.Options.{given}
+use Rattle.chains.specs.declared.cells.Pointer.{Pointer}
+use Rattle.chains.specs.declared.chain_table.ChainTable.{ChainTable}
+use Rattle.chains.specs.Tables.{node, at}
+use Rattle.chains.specs.Chains.{Holds}
+use Rattle.chains.specs.Laws.{Reads}
+use Rattle.chains.specs.Walks.{met_by, walked, walked_by}
+use Rattle.chains.proofs.Walking.{Leads, leads}
+use Rattle.chains.proofs.Reading.{reads}
+use Rattle.links.specs.declared.layout.TheConstants.{ENTRIES, AGE, ALL}
+use Rattle.links.specs.Pairs.{unpair}
+use Rattle.links.specs.Table.{edges, IsTable}
+use Rattle.links.specs.Laws.{Gives}
 use Rattle.search.specs.declared.side.Side.{Side}
 use Rattle.search.specs.declared.side.Side.TheVariants.{Fore, Hind}
-use Rattle.search.specs.Sides.{chain_of, far_end}
+use Rattle.search.specs.Sides.{table_of}
 use Rattle.search.specs.Meaning.{slot_board}
+use Rattle.links.proofs.Giving.{gives}
 use Rattle.search.proofs.Between.{arc}
+use Rattle.search.proofs.Potential.{entries, entries_are}
 
-module _ (d : ℕ → Bool) (g : ℕ → Link) (p : Link → Bool) where
-  any_last : (e : ℕ) → d e ≡ false → any p (edges_of d g (suc e)) ≡ (any p (edges_of d g e) || p (g e))
-  unfolding any
-  any_last e h = ap (any p) (edges_more d g e h) ∙ any_append p (edges_of d g e) (g e ∷ []) ∙ grind arith
+-- the end of a link by which a search finds it, and the one that it leads to
+abbrev pub near_end : Side → Link → ℕ
+near_end Fore l = l.from
+near_end Hind l = l.to
 
-  any_edge : (e l : ℕ) → l < e → d l ≡ false → p (g l) ≡ true → any p (edges_of d g e) ≡ true
-  any_edge zero l b h t = absurd (omega arith)
-  any_edge (suc e) l b h t = elim (cases_eq l e) [
-    | inl q ↦ any_last e (ap d (sym q) ∙ h) ∙ or_right (any p (edges_of d g e)) (p (g e)) (ap (λ (j : ℕ). p (g j)) (sym q) ∙ t)
-    | inr q ↦
-        let ih = any_edge e l (omega arith) h t in
-        elim (cases_Bool (d e)) [
-          | inl u ↦ ap (any p) (edges_less d g e u) ∙ ih
-          | inr u ↦ any_last e u ∙ or_left (any p (edges_of d g e)) (p (g e)) ih
-        ]
-  ]
+abbrev pub far_end : Side → Link → ℕ
+far_end Fore l = l.to
+far_end Hind l = l.from
 
-  edge_any : (e : ℕ) → any p (edges_of d g e) ≡ true → (l : ℕ) × (l < e) × (d l ≡ false) × (p (g l) ≡ true)
-  unfolding edges_of any
-  edge_any zero h = absurd (both_ways false refl h)
-  edge_any (suc e) h = elim (cases_Bool (d e)) [
-    | inl u ↦ let w = edge_any e (sym (ap (any p) (edges_less d g e u)) ∙ h) in (w.0, omega (arith, w.1), w.2, w.3)
-    | inr u ↦ elim (or_cases (any p (edges_of d g e)) (p (g e)) (sym (any_last e u) ∙ h)) [
-      | inl t ↦ let w = edge_any e t in (w.0, omega (arith, w.1), w.2, w.3)
-      | inr t ↦ (e, omega arith, u, t)
-    ]
-  ]
+abbrev pub labels : List Pointer → List ℕ
+labels xs = map (λ x. x.label) xs
 
-module _ (f : ℕ → ℕ) (d : ℕ → Bool) (k : ℕ) where
-  pub has_living : (e j : ℕ) → j < e → f j ≡ k → d j ≡ false → has (living f d k e) j ≡ true
-  unfolding living put any
-  has_living zero j b h t = absurd (omega arith)
-  has_living (suc e) j b h t = elim (cases_eq j e) [
-    | inl q ↦ grind (arith, nat_tests)
-    | inr q ↦ let ih = has_living e j (omega arith) h t in grind (arith, nat_tests)
-  ]
+-- the chain of the slot s
+pub record Along (m : List ℕ) (d : Side) (s : ℕ) (xs : List Pointer) : Type 0 where
+  pub led : Leads (table_of d) (at (table_of d) m) s xs
+  pub goals : (t : ℕ) → has (labels xs) t ≡ arc (slot_board m) d s t
+  pub long : length xs ≡ entries (near_end d) s (edges m)
 
-  pub living_below : (e j : ℕ) → has (living f d k e) j ≡ true → j < e
-  unfolding living put any
-  living_below zero j h = absurd (both_ways false refl h)
-  living_below (suc e) j h = let ih = living_below e j in grind (arith, nat_tests)
-
--- the next of a chain, and the rest of it
-pub has_none : (xs : List ℕ) (j : ℕ) → xs ≡ [] → has xs j ≡ true → ⊥
+any_turned : (f : ℕ → Bool) (xs ys : List ℕ) → any f (reverse_aux xs ys) ≡ (any f xs || any f ys)
 unfolding any
-has_none xs j e h = both_ways false refl (sym (ap (λ (ys : List ℕ). has ys j) e) ∙ h)
+any_turned f [] ys = refl
+any_turned f (x ∷ xs) ys = any_turned f xs (x ∷ ys) ∙ grind arith
 
-pub has_next : (xs ys : List ℕ) (l j : ℕ) → xs ≡ l ∷ ys → has xs j ≡ true → (j ≡ l) ⊎ (has ys j ≡ true)
+has_turned : (xs : List ℕ) (t : ℕ) → has (reverse xs) t ≡ has xs t
 unfolding any
-has_next xs ys l j e h = elim (or_cases (eqb j l) (has ys j) (sym (ap (λ (zs : List ℕ). has zs j) e) ∙ h)) [
-  | inl q ↦ inl (eqb-true j l q)
-  | inr q ↦ inr q
-]
+has_turned xs t = let e = any_turned (eqb t) xs [] in grind arith
 
--- the entry l is a link out of s for a search
-pub record Entry (m : List ℕ) (d : Side) (s l : ℕ) : Type 0 where
-  pub below : l < end m
-  pub alive : dead m l ≡ false
-  pub own : key (chain_of d) (link_at m l) ≡ s
+has_ends : (p : Link → Bool) (g : Link → ℕ) (t : ℕ) (ls : List Link) → has (map g (filter p ls)) t ≡ any (λ l. p l && eqb (g l) t) ls
+unfolding any filter
+has_ends p g t [] = refl
+has_ends p g t (l ∷ ls) =
+    let ih = has_ends p g t ls in
+    elim (cases_Bool (p l)) [ inl e ↦ rw e (grind (arith, nat_tests)) | inr e ↦ rw e ih ]
 
-module _ (m : List ℕ) where
-  abbrev goes : ℕ → ℕ → Link → Bool
-  goes x y l = eqb l.from x && eqb l.to y
+any_same : (f g : Link → Bool) → ((l : Link) → f l ≡ g l) → (ls : List Link) → any f ls ≡ any g ls
+unfolding any
+any_same f g h [] = refl
+any_same f g h (l ∷ ls) = let e = h l in let ih = any_same f g h ls in cc
 
-  pub entry_arc : (d : Side) (s l : ℕ) → Entry m d s l → arc (slot_board m) d s (far_end m d l) ≡ true
-  entry_arc Fore s l e = any_edge (dead m) (link_at m) (goes s (cell m tos l)) (end m) l e.below e.alive
-      (and_from _ _ (eq-eqb (cell m froms l) s e.own) (eq-eqb (cell m tos l) (cell m tos l) refl))
-  entry_arc Hind s l e = any_edge (dead m) (link_at m) (goes (cell m froms l) s) (end m) l e.below e.alive
-      (and_from _ _ (eq-eqb (cell m froms l) (cell m froms l) refl) (eq-eqb (cell m tos l) s e.own))
+-- the labels of the chain, as the table gives them
+labelled : (m : List ℕ) → IsTable m → (d : Side) (s : ℕ) → s < CARDS →
+    labels (walked ENTRIES (table_of d) m s) ≡ reverse (map (far_end d) (filter (λ l. eqb (near_end d l) s) (edges m)))
+unfolding Gives
+labelled m t Fore s h = (gives m t).0 s h
+labelled m t Hind s h = (gives m t).1 s h
 
-  pub arc_entry : (d : Side) (s t : ℕ) → arc (slot_board m) d s t ≡ true → (l : ℕ) × Entry m d s l × (far_end m d l ≡ t)
-  arc_entry Fore s t h =
-      let w = edge_any (dead m) (link_at m) (goes s t) (end m) h in
-      let p = and_parts (eqb (cell m froms w.0) s) (eqb (cell m tos w.0) t) w.3 in
-      (w.0, record { below = w.1; alive = w.2; own = eqb-true (cell m froms w.0) s p.0 }, eqb-true (cell m tos w.0) t p.1)
-  arc_entry Hind s t h =
-      let w = edge_any (dead m) (link_at m) (goes t s) (end m) h in
-      let p = and_parts (eqb (cell m froms w.0) t) (eqb (cell m tos w.0) s) w.3 in
-      (w.0, record { below = w.1; alive = w.2; own = eqb-true (cell m tos w.0) s p.1 }, eqb-true (cell m froms w.0) t p.0)
+arc_any : (m : List ℕ) (d : Side) (s t : ℕ) → any (λ l. eqb (near_end d l) s && eqb (far_end d l) t) (edges m) ≡ arc (slot_board m) d s t
+arc_any m Fore s t = refl
+arc_any m Hind s t = any_same (λ l. eqb l.to s && eqb l.from t) (λ l. eqb l.from t && eqb l.to s) (λ l. grind arith) (edges m)
+
+held : (m : List ℕ) → IsTable m → (d : Side) → (chains : ℕ → List Pointer) × Holds (table_of d) m chains
+held m t Fore = (_, t.table.table.outs)
+held m t Hind = (_, t.table.table.ins)
+
+heads_of : (d : Side) → ((table_of d).heads ≡ CARDS) × ((table_of d).cells.size ≤ (table_of d).heads + ENTRIES + 1)
+heads_of Fore = (refl, omega arith)
+heads_of Hind = (refl, omega arith)
+
+pub along : (m : List ℕ) → IsTable m → (d : Side) (s : ℕ) → s < CARDS → (xs : List Pointer) × Along m d s xs
+unfolding Reads
+along m t d s h =
+    let T = table_of d in
+    let H = held m t d in
+    let e = heads_of d in
+    let k : s < T.heads = omega (arith, e.0) in
+    let xs = H.0 s in
+    let w = reads T m s ENTRIES H.0 H.1 k e.1 in
+    let l : labels xs ≡ reverse (map (far_end d) (filter (λ l. eqb (near_end d l) s) (edges m))) = sym (ap labels w) ∙ labelled m t d s h in
+    let ks = filter (λ (l : Link). eqb (near_end d l) s) (edges m) in (
+      xs,
+      record {
+        led = leads T (at T m) xs s (H.1.spelled s k);
+        goals = λ t. ap (λ (ys : List ℕ). has ys t) l ∙ has_turned (map (far_end d) ks) t ∙ has_ends (λ l. eqb (near_end d l) s) (far_end d) t (edges m)
+            ∙ arc_any m d s t;
+        long = sym (length-map xs (λ (x : Pointer). x.label)) ∙ ap length l ∙ length-reverse (map (far_end d) ks) ∙ length-map ks (far_end d)
+            ∙ entries_are (near_end d) s (edges m);
+      },
+    )
+
+-- how many links there are
+few_given : (o : Option Pointer) (k : Pointer → List Pointer) (f : ℕ) → ((x : Pointer) → length (k x) ≤ f) → length (given o [] (λ x. x ∷ k x)) ≤ suc f
+few_given None k f h = omega arith
+few_given (Some x) k f h = omega (arith, h x)
+
+few_walked : (f : ℕ) (T : ChainTable) (g : ℕ → ℕ) (p : ℕ) → length (walked_by f T g p) ≤ f
+unfolding walked_by
+few_walked zero T g p = omega arith
+few_walked (suc f) T g p = few_given (met_by g p) (λ x. walked_by f T g (node T x.held)) f (λ x. few_walked f T g (node T x.held))
+
+pub few_edges : (m : List ℕ) → length (edges m) ≤ ENTRIES
+unfolding edges
+few_edges m =
+    let xs = walked ENTRIES AGE m ALL in
+    omega (arith, length-reverse (map (λ (x : Pointer). unpair x.label) xs), length-map xs (λ (x : Pointer). unpair x.label), few_walked ENTRIES AGE (cell m AGE.cells) ALL)

@@ -1,68 +1,60 @@
 -- After a search that came to its end, settling makes the firm row.
-use Rattle.std.proofs.Common.{◌≡◌, ℕ, suc, ◌+◌, ◌-◌, ◌<◌, ◌≤◌, Bool, true, false, ◌&&◌, ◌||◌, leb, ◌⊎◌, List, map, length, sym, refl, ap, ◌∙◌, subst, ap₂, inl, inr, arith}
+use Rattle.std.proofs.Common.{◌≡◌, ℕ, suc, ◌+◌, ◌-◌, ◌^◌, ◌<◌, ◌≤◌, min, Bool, true, false, ◌&&◌, ◌||◌, leb, List, [], ◌∷◌, ◌++◌, map, length, sym, refl, ap, ◌∙◌, subst, ap₂, arith, length-append}
 use Rattle.std.specs.List.{range_with_len}
 use Rattle.std.proofs.lemmas.List.{length-map}
-use Rattle.std.proofs.lemmas.Bool.{le-leb, lt-leb, and_left, and_right}
-use Rattle.row.specs.declared.column.Column.{Column}
-use Rattle.row.specs.Lists.{filter, has, place}
-use Rattle.row.specs.Board.{Board, leads, keeps}
-use Rattle.row.specs.Commands.{with_link, firm}
-use Rattle.row.specs.Columns.{cell, apart}
-use Rattle.row.specs.Layout.{tally, ids, chain, slots, places, count, fresh}
-use Rattle.row.specs.Meaning.{row_of, in_use, used, Standing, Stands}
-use Rattle.row.proofs.Tabulated.{made_same}
-use Rattle.row.proofs.Parts.{with_part}
-use Rattle.row.proofs.Refilled.{refilled}
-use Rattle.row.proofs.Climbs.{Fine, fine_parts}
-use Rattle.row.proofs.Allowed.{Open, sides_apart}
-use Rattle.row.proofs.Firm.{firm_row, firm_row_is, firm_is, firm_keeps}
-use Rattle.row.proofs.Present.{used_place}
-use Rattle.links.proofs.Sameness.{edges_alike, tabled_alike}
-use Rattle.search.specs.Layout.{fore, hind, chosen}
-use Rattle.search.specs.MarkLaws.{Summed}
+use Rattle.std.proofs.lemmas.Bool.{and_parts, le-leb, lt-leb, and_left, and_right}
+use Rattle.order.specs.declared.board.TheConstants.{CARDS}
+use Rattle.order.specs.Lists.{filter, has, place}
+use Rattle.order.specs.Board.{Board, leads, keeps}
+use Rattle.order.specs.Reordering.{with_link, firm}
+use Rattle.order.proofs.Filters.{has_filter}
+use Rattle.order.proofs.Parts.{with_part}
+use Rattle.order.proofs.Refilled.{either, refilled}
+use Rattle.order.proofs.Climbs.{Fine, fine_parts}
+use Rattle.order.proofs.Allowed.{Open, sides_apart}
+use Rattle.order.proofs.Firm.{firm_row, firm_row_is, firm_is, firm_keeps}
+use Rattle.memory.specs.declared.column.Column.{Column}
+use Rattle.memory.specs.Columns.{cell}
+use Rattle.memory.specs.Footprints.{clear, View, view, Writes}
+use Rattle.memory.specs.PlaceSetLaws.{Summed, CellsAlone}
+use Rattle.memory.proofs.Alone.{cells_alone}
+use Rattle.memory.proofs.Footprints.{kept, less, after}
+use Rattle.row.specs.declared.layout.TheConstants.{SEATS_MOST, COUNT, ENDING, FRESH, FREE, IDS, CHAIN, SLOTS, SEATS, TAKEN}
+use Rattle.row.specs.Meaning.{count, ending, fresh, free, listed, amount, bit_set, in_use, taken, rank, row_of, used, Standing, IsRow}
+use Rattle.row.proofs.Listing.{amount_more}
+use Rattle.row.proofs.Along.{amount_before}
+use Rattle.row.proofs.Seatings.{one_seat}
+use Rattle.row.proofs.Named.{used_seat, has_slot, place_slot}
+use Rattle.row.proofs.Present.{few_cards}
+use Rattle.links.proofs.Keeping.{table_kept, edges_kept}
+use Rattle.search.specs.declared.layout.TheConstants.{FORE, HIND, CHOSEN}
+use Rattle.search.specs.Columns.{columns, searched, sets}
 use Rattle.search.specs.Meaning.{slot_board, slot_on, part, Ready, Parted}
 use Rattle.search.specs.Settle.{Gathered, gathers, both_first, dealt, forgotten, chose, settled}
 use Rattle.search.specs.SettleLaws.{Unmarked, Settled, Settles}
-use Rattle.search.proofs.Frames.{cells_alone}
-use Rattle.search.proofs.Listed.{lists_filter, filter_few}
-use Rattle.search.proofs.Gathering.{Marking, marking_same, wrote, wrote_append, length_wrote, wrote_apart, wrote_reads, gathers_list}
-use Rattle.search.proofs.Dealing.{put, length_put, put_apart, put_slots, put_places, deals}
+use Rattle.search.proofs.Listed.{Lists, lists_filter, counting_has}
+use Rattle.search.proofs.InThree.{before, inner, behind, in_inner, inner_once, before_out, behind_out, part_end, in_three}
+use Rattle.search.proofs.Mapped.{map_has, map_filter, filter_same, filter_both, filter_fewer}
+use Rattle.search.proofs.Gathering.{Marking, marking_kept, wrote, wrote_append, writes_wrote, wrote_reads, gathers_list}
+use Rattle.search.proofs.Dealing.{put, put_slots, put_places, writes_put, deals}
 use Rattle.search.proofs.Exchanged.{exchanged, exchanged_same}
-use Rattle.search.proofs.Seating.{Rearranges, Seats, used_same, seated_standing}
+use Rattle.search.proofs.Seating.{Rearranges, used_same, standing_again}
 use Rattle.search.proofs.Reordered.{those, fill, rearranges, row_is}
-use Rattle.row.proofs.Named.{has_slot, place_slot}
-use Rattle.search.proofs.RowPlaces.{slot_one}
-use Rattle.search.proofs.SettleFrames.{only_forgotten, settles_only, settled_alike, forgets_all}
+use Rattle.search.proofs.SettleFrames.{writes_forgotten, forgets_all}
 
-module _ (m m₁ : List ℕ) (a b : ℕ) (R : Ready m) (ua : used m a ≡ true) (ub : used m b ≡ true) (back : cell m places b < cell m places a)
+module _ (m m₁ : List ℕ) (a b : ℕ) (R : Ready m) (ua : used m a ≡ true) (ub : used m b ≡ true) (back : cell m SEATS b < cell m SEATS a)
     (P : Parted m m₁ a b) where
   abbrev r : Board
   r = slot_board m
-
-  abbrev S : Standing (count m) (fresh m) (cell m ids) (cell m chain) (cell m slots) (cell m places)
-  S = R.stands.stands
 
   f : Fine r
   f = fine_parts r R.fine_so
 
   open_so : Open r a b
-  open_so = record { there = (has_slot m R.stands a ua, has_slot m R.stands b ub); no_way = P.no_round }
+  open_so = record { there = (has_slot m R.is_row a ua, has_slot m R.is_row b ub); no_way = P.no_round }
 
-  -- the part: n places from lo on
-  abbrev lo : ℕ
-  lo = cell m places b
-
-  abbrev hi : ℕ
-  hi = cell m places a
-
-  abbrev n : ℕ
-  n = suc hi - lo
-
-  hi_below : suc hi ≤ count m
-  hi_below = (used_place m R.stands a ua).0
-
-  count_below : count m ≤ 8192
-  count_below = omega (arith, S.few, S.room)
+  abbrev slot : ℕ → ℕ
+  slot = cell m SLOTS
 
   abbrev A : ℕ → Bool
   A k = leads r k a
@@ -70,214 +62,300 @@ module _ (m m₁ : List ℕ) (a b : ℕ) (R : Ready m) (ua : used m a ≡ true) 
   abbrev B : ℕ → Bool
   B k = leads r b k
 
-  abbrev MA : ℕ → Bool
-  MA p = part m a b p && A (slot_on m p)
-
-  abbrev MB : ℕ → Bool
-  MB p = part m a b p && B (slot_on m p)
-
-  abbrev M : ℕ → Bool
-  M p = MA p || MB p
-
-  at_b : place (row_of m) b ≡ lo
-  at_b = place_slot m R.stands b ub
-
-  at_a : place (row_of m) a ≡ hi
-  at_a = place_slot m R.stands a ua
-
-  back_row : place (row_of m) b < place (row_of m) a
-  back_row = omega (arith, at_a, at_b, back)
-
   apart_so : (k : ℕ) → B k ≡ true → A k ≡ false
   apart_so = sides_apart r f a b open_so
 
+  -- the part: n seats from lo on, of which Q are taken
+  abbrev lo : ℕ
+  lo = cell m SEATS b
+
+  abbrev hi : ℕ
+  hi = cell m SEATS a
+
+  abbrev n : ℕ
+  n = suc hi - lo
+
+  abbrev Q : List ℕ
+  Q = inner (taken m) lo n
+
+  ends : suc hi ≤ ending m
+  ends = R.is_row.stands.seated.below hi (used_seat m R.is_row a ua).0
+
+  in_Q : (p : ℕ) → has Q p ≡ true → (lo ≤ p) × (p < lo + n) × (taken m p ≡ true)
+  in_Q p h = in_inner (taken m) lo n p h
+
+  -- all taken seats
+  abbrev seats : List ℕ
+  seats = filter (taken m) (range_with_len 0 (ending m))
+
+  seats_are : seats ≡ before (taken m) lo n ++ (Q ++ behind (taken m) lo n (ending m))
+  seats_are = in_three (taken m) lo n (ending m) (let e = ends in omega arith)
+
+  length_before : length (before (taken m) lo n) ≡ rank m lo
+  unfolding amount
+  length_before = refl
+
+  length_seats : length seats ≡ count m
+  unfolding amount
+  length_seats = sym R.is_row.stands.seated.counts
+
+  rank_behind : rank m lo + length Q ≡ suc (rank m hi)
+  unfolding amount
+  rank_behind =
+      let e : lo + n ≡ suc hi = omega arith in
+      let w = amount_more (taken m) hi in
+      let t = (used_seat m R.is_row a ua).0 in
+      part_end (taken m) lo n ∙ ap (λ (x : ℕ). length (filter (taken m) (range_with_len 0 x))) e ∙ w ∙ rw t (omega arith)
+
+  few_Q : length Q ≤ CARDS
+  few_Q =
+      let c = few_cards m R.is_row in
+      let s = sym length_seats ∙ ap length seats_are ∙ length-append (before (taken m) lo n) (Q ++ behind (taken m) lo n (ending m)) in
+      let q = length-append Q (behind (taken m) lo n (ending m)) in
+      omega arith
+
+  at_b : place (row_of m) b ≡ rank m lo
+  at_b = place_slot m R.is_row b ub
+
+  at_a : place (row_of m) a ≡ rank m hi
+  at_a = place_slot m R.is_row a ua
+
+  -- what is marked: of the taken seats of the part those whose slot passes a test
+  abbrev marks : (ℕ → Bool) → ℕ → Bool
+  marks T p = taken m p && (part m a b p && T (slot_on m p))
+
   in_part : (p : ℕ) → lo ≤ p → p < lo + n → part m a b p ≡ true
-  in_part p l u = rw (le-leb lo p l, le-leb p hi (omega (arith, back)))
+  in_part p l u = rw (le-leb lo p l, le-leb p hi (omega arith))
 
-  out_part : (p : ℕ) → (p < lo) ⊎ (lo + n ≤ p) → part m a b p ≡ false
-  out_part p (inl h) = and_left (leb lo p) (leb p hi) (lt-leb lo p h)
-  out_part p (inr h) = and_right (leb lo p) (leb p hi) (lt-leb p hi (omega (arith, back)))
+  part_before : (p : ℕ) → p < lo → part m a b p ≡ false
+  part_before p h = and_left (leb lo p) (leb p hi) (lt-leb lo p h)
 
-  is_A : (p : ℕ) → lo ≤ p → p < lo + n → MA p ≡ A (cell m slots p)
-  is_A p l u = rw (in_part p l u)
+  part_behind : (p : ℕ) → lo + n ≤ p → part m a b p ≡ false
+  part_behind p h = and_right (leb lo p) (leb p hi) (lt-leb p hi (omega arith))
 
-  is_B : (p : ℕ) → lo ≤ p → p < lo + n → MB p ≡ B (cell m slots p)
-  is_B p l u = rw (in_part p l u)
+  marks_in : (T : ℕ → Bool) (p : ℕ) → lo ≤ p → p < lo + n → marks T p ≡ (taken m p && T (slot p))
+  marks_in T p l u = rw (in_part p l u)
 
-  out_A : (p : ℕ) → (p < lo) ⊎ (lo + n ≤ p) → MA p ≡ false
-  out_A p h = rw (out_part p h)
+  marks_out : (T : ℕ → Bool) (p : ℕ) → part m a b p ≡ false → marks T p ≡ false
+  marks_out T p h = and_right (taken m p) (part m a b p && T (slot_on m p)) (and_left (part m a b p) (T (slot_on m p)) h)
 
-  out_B : (p : ℕ) → (p < lo) ⊎ (lo + n ≤ p) → MB p ≡ false
-  out_B p h = rw (out_part p h)
-
-  out_M : (p : ℕ) → (p < lo) ⊎ (lo + n ≤ p) → M p ≡ false
-  out_M p h = rw (out_A p h, out_B p h)
-
-  abbrev slot : ℕ → ℕ
-  slot = cell m slots
+  marked_seats : (T : ℕ → Bool) → Lists (marks T) 0 (filter (λ p. T (slot p)) Q)
+  marked_seats T =
+      subst (Lists (marks T) 0)
+      (filter_same (marks T) (λ p. taken m p && T (slot p)) (range_with_len lo n) (λ p h. let c = counting_has lo n p h in marks_in T p c.0 c.1)
+      ∙ sym (filter_both (taken m) (λ p. T (slot p)) (range_with_len lo n)))
+      (lists_filter (marks T) 0 lo n (omega arith) (λ p x y. marks_out T p (part_before p y)) (λ p x. marks_out T p (part_behind p x)))
 
   abbrev ps : List ℕ
-  ps = those slot A B MA MB lo n apart_so is_A is_B
+  ps = those slot A B Q apart_so
 
   abbrev ks : List ℕ
-  ks = fill slot A B MA MB lo n apart_so is_A is_B
+  ks = fill slot A B Q apart_so
 
-  rearranged : Rearranges (count m) slot ps ks
-  rearranged = rearranges slot A B MA MB lo n apart_so is_A is_B (count m) (omega (arith, back, hi_below))
-      (λ p q l h u e. let z = slot_one m R.stands p q (omega (arith, back, hi_below)) (omega (arith, back, hi_below)) e in omega arith)
+  rearranged : Rearranges (taken m) slot ps ks
+  rearranged =
+      rearranges slot A B Q apart_so (taken m) (λ p h. (in_Q p h).2) (inner_once (taken m) lo n)
+      (λ p q h i e. one_seat R.is_row.stands.seated p q (in_Q p h).2 (in_Q q i).2 e)
+
+  seat_low : (p : ℕ) → has ps p ≡ true → p < SEATS_MOST
+  seat_low p h = let e = R.is_row.stands.seated.below p (rearranged.seats_held p h) in omega arith
+
+  slot_low : (s : ℕ) → has ks s ≡ true → s < CARDS
+  slot_low s h =
+      let w = rearranged.from s h in
+      let l = R.is_row.stands.seated.low w.0 (rearranged.seats_held w.0 w.1) in
+      let e = w.2 in omega arith
+
+  few_ps : length ps ≤ CARDS
+  unfolding those
+  few_ps = let l = filter_fewer (λ p. either B A (slot p)) Q in let q = few_Q in omega arith
+
+  ps_listed : Lists (λ p. marks A p || marks B p) 0 ps
+  unfolding those
+  ps_listed = lists_as (marked_seats (either B A))
+    where
+      same_marks : (p : ℕ) → marks (either B A) p ≡ (marks A p || marks B p)
+      same_marks p = grind arith
+
+      both : List ℕ
+      both = filter (λ p. either B A (slot p)) Q
+
+      lists_as : Lists (marks (either B A)) 0 both → Lists (λ p. marks A p || marks B p) 0 both
+      lists_as l = subst (λ (T : ℕ → Bool). Lists T 0 both) (λ t p. same_marks p t) l
 
   -- what is gathered, and where it is put
   abbrev qsA : List ℕ
-  qsA = filter MA (range_with_len lo n)
+  qsA = filter (λ p. A (slot p)) Q
 
   abbrev qsB : List ℕ
-  qsB = filter MB (range_with_len lo n)
+  qsB = filter (λ p. B (slot p)) Q
 
-  few_n : n ≤ 8192
-  few_n = omega (arith, hi_below, count_below)
+  ks_is : map slot qsA ++ map slot qsB ≡ ks
+  unfolding fill
+  ks_is = ap₂ ◌++◌ (map_filter slot A Q) (map_filter slot B Q)
 
-  long : 478496 ≤ length m₁
-  long = P.hind_summed.lies
-
-  hind_marks : Marking m₁ hind MA
+  hind_marks : Marking m₁ HIND.column (marks A)
   hind_marks = record { summed = P.hind_summed; marks = P.hind_is }
 
-  fore_marks : Marking m₁ fore MB
+  fore_marks : Marking m₁ FORE.column (marks B)
   fore_marks = record { summed = P.fore_summed; marks = P.fore_is }
+
+  slots_same : (p : ℕ) → cell m₁ SLOTS p ≡ slot p
+  slots_same p = P.kept.others SLOTS p refl
+
+  small_slots : (T : ℕ → Bool) (s : ℕ) → has (map slot (filter (λ p. T (slot p)) Q)) s ≡ true → s < 2 ^ 64
+  small_slots T s h =
+      let w = map_has slot (filter (λ p. T (slot p)) Q) s h in
+      let i = and_parts (T (slot w.0)) (has Q w.0) (sym (has_filter (λ p. T (slot p)) Q w.0) ∙ w.1) in
+      let l = R.is_row.stands.seated.low w.0 (in_Q w.0 i.1).2 in
+      let e = w.2 in
+      omega arith
 
   abbrev m₂ : List ℕ
   m₂ = wrote m₁ 0 ks
 
+  small_ks : (s : ℕ) → has ks s ≡ true → s < 2 ^ 64
+  small_ks s h = let l = slot_low s h in omega arith
+
+  wrote_ks : Writes (CHOSEN ∷ []) m₁ m₂
+  wrote_ks = writes_wrote m₁ 0 ks small_ks
+
   chose_is : chose m₁ ≡ m₂
-  unfolding chose fill
+  unfolding chose
   chose_is =
       let kA = map slot qsA in
       let kB = map slot qsB in
       let w = wrote m₁ 0 kA in
-      let lA = lists_filter MA 0 lo n (omega arith) (λ p x y. out_A p (inl y)) (λ p x. out_A p (inr x)) in
-      let lB = lists_filter MB 0 lo n (omega arith) (λ p x y. out_B p (inl y)) (λ p x. out_B p (inr x)) in
-      let g₁ = gathers_list hind refl MA slot m₁ qsA 0 hind_marks P.kept.same_slots lA (omega (arith, filter_few MA lo n, few_n)) in
-      let fw = marking_same m₁ w fore MB (length_wrote m₁ 0 kA) (λ j. wrote_apart m₁ 0 kA fore j refl) fore_marks in
-      let g₂ = gathers_list fore refl MB slot w qsB (0 + length qsA) fw (λ p. wrote_apart m₁ 0 kA slots p refl ∙ P.kept.same_slots p) lB
-      (omega (arith, filter_few MB lo n, few_n)) in
-      ap (λ (g : Gathered). (gathers g.memory fore g.end).memory) g₁ ∙ ap (λ (g : Gathered). g.memory) g₂
-      ∙ sym (wrote_append m₁ 0 (0 + length qsA) kA kB (ap (λ (x : ℕ). 0 + x) (length-map qsA slot)))
-
-  few_ps : length ps ≤ 8192
-  unfolding those
-  few_ps = omega (arith, filter_few M lo n, few_n)
+      let few = few_Q in
+      let g₁ = gathers_list HIND.column refl (marks A) slot m₁ qsA 0 hind_marks slots_same (marked_seats A)
+      (let l = filter_fewer (λ p. A (slot p)) Q in omega arith) in
+      let ww = writes_wrote m₁ 0 kA (small_slots A) in
+      let fw = marking_kept (CHOSEN ∷ []) m₁ w FORE.column (marks B) ww refl fore_marks in
+      let g₂ = gathers_list FORE.column refl (marks B) slot w qsB (0 + length qsA) fw (λ p. ww.others SLOTS p refl ∙ slots_same p) (marked_seats B)
+      (let l = filter_fewer (λ p. B (slot p)) Q in omega arith) in
+      ap (λ (g : Gathered). (gathers g.memory FORE.column g.end).memory) g₁ ∙ ap (λ (g : Gathered). g.memory) g₂
+      ∙ sym (wrote_append m₁ 0 (0 + length qsA) kA kB (ap (λ (x : ℕ). 0 + x) (length-map qsA slot))) ∙ ap (wrote m₁ 0) ks_is
 
   abbrev m₃ : List ℕ
   m₃ = put m₂ ps ks
 
-  dealt_is : dealt 8192 m₂ (both_first m₂) 0 ≡ m₃
-  unfolding those
+  room : CHOSEN.base + CHOSEN.size ≤ length m₁
+  room = let l = P.hind_summed.lies in omega arith
+
+  dealt_is : dealt CARDS m₂ (both_first m₂) 0 ≡ m₃
   dealt_is =
-      let l₂ = length_wrote m₁ 0 ks in
-      deals MA MB m₂ ps ks
-      (marking_same m₁ m₂ hind MA l₂ (λ j. wrote_apart m₁ 0 ks hind j refl) hind_marks)
-      (marking_same m₁ m₂ fore MB l₂ (λ j. wrote_apart m₁ 0 ks fore j refl) fore_marks)
-      (lists_filter M 0 lo n (omega arith) (λ p x y. out_M p (inl y)) (λ p x. out_M p (inr x)))
-      (wrote_reads m₁ 0 ks (omega (arith, long)) (omega (arith, rearranged.as_many, few_ps)))
+      deals (marks A) (marks B) m₂ ps ks
+      (marking_kept (CHOSEN ∷ []) m₁ m₂ HIND.column (marks A) wrote_ks refl hind_marks)
+      (marking_kept (CHOSEN ∷ []) m₁ m₂ FORE.column (marks B) wrote_ks refl fore_marks)
+      ps_listed
+      (wrote_reads m₁ 0 ks room (let e = rearranged.as_many in let l = few_ps in omega arith))
       rearranged.as_many few_ps
+
+  put_ks : Writes (SLOTS ∷ SEATS ∷ []) m₂ m₃
+  put_ks = writes_put m₂ ps ks (λ p h. let l = seat_low p h in omega arith) small_ks
 
   abbrev m' : List ℕ
   m' = settled m₁
 
   settled_is : m' ≡ forgotten m₃
   unfolding settled
-  settled_is =
-      ap (λ (x : List ℕ). forgotten (dealt 8192 x (both_first x) 0)) chose_is ∙ ap forgotten dealt_is
+  settled_is = ap (λ (x : List ℕ). forgotten (dealt CARDS x (both_first x) 0)) chose_is ∙ ap forgotten dealt_is
+
+  -- what is written
+  abbrev written_columns : List Column
+  written_columns = SLOTS ∷ SEATS ∷ columns
+
+  wrote_so : Writes written_columns m m'
+  wrote_so =
+      subst (λ (x : List ℕ). Writes written_columns m x) (sym settled_is)
+      (after written_columns sets m m₃ (forgotten m₃) refl (writes_forgotten m₃)
+      (after written_columns (SLOTS ∷ SEATS ∷ []) m m₂ m₃ refl put_ks
+      (after written_columns (CHOSEN ∷ []) m m₁ m₂ refl wrote_ks (less written_columns searched m m₁ refl P.kept))))
 
   -- the columns after it
-  cell_put : (d : Column) (j : ℕ) → apart fore d ≡ true → apart hind d ≡ true → cell m' d j ≡ cell m₃ d j
-  cell_put d j x y = ap (λ (z : List ℕ). cell z d j) settled_is ∙ (only_forgotten m₃).others d j x y
+  cell_put : (d : Column) (j : ℕ) → clear sets d ≡ true → cell m' d j ≡ cell m₃ d j
+  cell_put d j x = ap (λ (z : List ℕ). cell z d j) settled_is ∙ (writes_forgotten m₃).others d j x
 
-  length_m₂ : 41240 ≤ length m₂
-  length_m₂ = omega (arith, length_wrote m₁ 0 ks, long)
+  length_m₂ : SEATS.base + SEATS.size ≤ length m₂
+  length_m₂ = let e = wrote_ks.as_long in let l = room in omega arith
 
-  slots_are : (p : ℕ) → cell m' slots p ≡ exchanged slot ps ks p
+  slots_are : (p : ℕ) → cell m' SLOTS p ≡ exchanged slot ps ks p
   slots_are p =
-      cell_put slots p refl refl ∙ put_slots m₂ ps ks length_m₂ (λ q h. omega (arith, rearranged.low q h, count_below)) p
-      ∙ exchanged_same (cell m₂ slots) slot ps ks (λ x. wrote_apart m₁ 0 ks slots x refl ∙ P.kept.same_slots x) p
+      cell_put SLOTS p refl ∙ put_slots m₂ ps ks length_m₂ seat_low p
+      ∙ exchanged_same (cell m₂ SLOTS) slot ps ks (λ x. wrote_ks.others SLOTS x refl ∙ slots_same x) p
 
-  slot_below : (s : ℕ) → has ks s ≡ true → s < 8192
-  slot_below s h =
-      let w = rearranged.from s h in
-      let u = S.slot_at w.0 (omega (arith, rearranged.low w.0 w.1, S.few)) in
-      omega (arith, w.2, u.0, S.room)
+  seats_same : (s : ℕ) → cell m' SEATS s ≡ exchanged (cell m SEATS) ks ps s
+  seats_same s =
+      cell_put SEATS s refl ∙ put_places m₂ ps ks length_m₂ slot_low s
+      ∙ exchanged_same (cell m₂ SEATS) (cell m SEATS) ks ps (λ x. wrote_ks.others SEATS x refl ∙ P.kept.others SEATS x refl) s
 
-  places_are : (s : ℕ) → cell m' places s ≡ exchanged (cell m places) ks ps s
-  places_are s =
-      cell_put places s refl refl ∙ put_places m₂ ps ks length_m₂ slot_below s
-      ∙ exchanged_same (cell m₂ places) (cell m places) ks ps (λ x. wrote_apart m₁ 0 ks places x refl ∙ P.kept.same_places x) s
+  -- what isn't written
+  abbrev others : List Column
+  others = COUNT ∷ ENDING ∷ FRESH ∷ FREE ∷ IDS ∷ CHAIN ∷ TAKEN ∷ []
 
-  else_same : (d : Column) (j : ℕ) → apart slots d ≡ true → apart places d ≡ true → apart chosen d ≡ true → apart fore d ≡ true → apart hind d ≡ true →
-      cell m' d j ≡ cell m₁ d j
-  else_same = (settles_only m₁).others
+  as_before : (V : View → Type 0) → V (view others m) → V (view others m')
+  as_before V p = kept written_columns others refl m m' wrote_so V p
 
-  tally_same : (j : ℕ) → cell m' tally j ≡ cell m tally j
-  tally_same j = else_same tally j refl refl refl refl refl ∙ P.kept.same_tally j
-
-  ids_same : (j : ℕ) → cell m' ids j ≡ cell m ids j
-  ids_same j = else_same ids j refl refl refl refl refl ∙ P.kept.same_ids j
-
-  chain_same : (j : ℕ) → cell m' chain j ≡ cell m chain j
-  chain_same j = else_same chain j refl refl refl refl refl ∙ P.kept.same_chain j
-
-  as_long : length m' ≡ length m
-  as_long = (settles_only m₁).as_long ∙ P.kept.as_long
-
-  seats : Seats ps ks (cell m ids) (cell m chain) slot (cell m places) (cell m' ids) (cell m' chain) (cell m' slots) (cell m' places)
-  seats = record { id_same = ids_same; next_same = chain_same; slot_is = slots_are; place_is = places_are }
-
-  standing : Standing (count m) (fresh m) (cell m' ids) (cell m' chain) (cell m' slots) (cell m' places)
-  standing = seated_standing (count m) (fresh m) ps ks _ _ _ _ _ _ _ _ S rearranged seats
-
-  stands_so : Stands m'
-  stands_so = record {
-    long = omega (arith, as_long, R.stands.long);
+  row_again : IsRow m'
+  row_again = record {
+    long = let e = wrote_so.as_long in let l = R.is_row.long in omega arith;
     stands =
-        subst (λ (x : ℕ). Standing x (fresh m') (cell m' ids) (cell m' chain) (cell m' slots) (cell m' places)) (sym (tally_same 0))
-        (subst (λ (x : ℕ). Standing (count m) x (cell m' ids) (cell m' chain) (cell m' slots) (cell m' places)) (sym (tally_same 1)) standing);
+        as_before (λ v. Standing (v.at COUNT 0) (min (v.at ENDING 0) SEATS_MOST) (v.at FRESH 0) (v.at FREE 0) (v.at IDS) (v.at CHAIN)
+        (cell m' SLOTS) (cell m' SEATS) (bit_set (v.at TAKEN)))
+        (standing_again (count m) (ending m) (fresh m) (free m) ps ks (cell m IDS) (cell m CHAIN) slot (cell m SEATS) (taken m) R.is_row.stands rearranged
+        (cell m' SLOTS) (cell m' SEATS) slots_are seats_same);
   }
 
   used_so : (s : ℕ) → used m' s ≡ used m s
   used_so s =
-      ap (λ (x : ℕ). in_use x (fresh m') (cell m' places) s) (tally_same 0) ∙ ap (λ (x : ℕ). in_use (count m) x (cell m' places) s) (tally_same 1)
-      ∙ used_same (count m) (fresh m) ps ks _ _ _ _ _ _ _ _ S rearranged seats s
+      as_before (λ v. in_use (cell m' SLOTS) (cell m' SEATS) (bit_set (v.at TAKEN)) s ≡ used m s)
+      (used_same (count m) (ending m) (fresh m) (free m) ps ks (cell m IDS) (cell m CHAIN) slot (cell m SEATS) (taken m) R.is_row.stands rearranged
+      (cell m' SLOTS) (cell m' SEATS) slots_are seats_same s)
 
-  row_so : row_of m' ≡ with_part (refilled B A) (row_of m) lo (suc hi)
+  taken_so : (p : ℕ) → taken m' p ≡ taken m p
+  taken_so p = as_before (λ v. bit_set (v.at TAKEN) p ≡ taken m p) refl
+
+  row_so : row_of m' ≡ with_part (refilled B A) (row_of m) (rank m lo) (suc (rank m hi))
+  unfolding listed
   row_so =
-      ap (λ (x : ℕ). map (cell m' slots) (range_with_len 0 x)) (tally_same 0)
-      ∙ made_same (cell m' slots) (exchanged slot ps ks) 0 (count m) (λ p x y. slots_are p)
-      ∙ row_is slot A B MA MB lo n apart_so is_A is_B (count m) (suc hi) (omega (arith, back)) hi_below
+      as_before (λ v. map (cell m' SLOTS) (filter (bit_set (v.at TAKEN)) (range_with_len 0 (min (v.at ENDING 0) SEATS_MOST)))
+      ≡ with_part (refilled B A) (row_of m) (rank m lo) (suc (rank m hi)))
+      (ap (λ (g : ℕ → ℕ). map g (filter (taken m) (range_with_len 0 (ending m)))) (λ t p. slots_are p t)
+      ∙ ap (map (exchanged slot ps ks)) seats_are
+      ∙ row_is slot A B Q apart_so (before (taken m) lo n) (behind (taken m) lo n (ending m)) (rank m lo) (suc (rank m hi)) (inner_once (taken m) lo n)
+      (before_out (taken m) lo n) (behind_out (taken m) lo n (ending m)) length_before rank_behind
+      ∙ ap (λ (xs : List ℕ). with_part (refilled B A) (map slot xs) (rank m lo) (suc (rank m hi))) (sym seats_are))
 
   -- that is the firm row
+  back_row : place (row_of m) b < place (row_of m) a
+  back_row =
+      let x = at_a in let y = at_b in let z = amount_before (taken m) lo hi back (used_seat m R.is_row b ub).0 in
+      omega arith
+
   firm_so : row_of m' ≡ firm_row r f a b open_so back_row
   firm_so =
       row_so ∙ ap₂ (λ (x y : ℕ). with_part (refilled B A) (row_of m) x (suc y)) (sym at_b) (sym at_a) ∙ sym (firm_row_is r f a b open_so back_row)
 
-  summed_m₃ : (c : Column) → apart slots c ≡ true → apart places c ≡ true → apart chosen c ≡ true → Summed m₁ c → Summed m₃ c
-  summed_m₃ c x y z s =
-      (cells_alone m₁ m₃ c (λ i. put_apart m₂ ps ks c i x y ∙ wrote_apart m₁ 0 ks c i z)).1
-      (let l = s.lies in rw (length_put m₂ ps ks, length_wrote m₁ 0 ks) l) s
+  summed_m₃ : (c : Column) → clear (CHOSEN ∷ []) c ≡ true → clear (SLOTS ∷ SEATS ∷ []) c ≡ true → Summed m₁ c → Summed m₃ c
+  unfolding CellsAlone
+  summed_m₃ c x y s =
+      (cells_alone m₁ m₃ c (λ i. put_ks.others c i y ∙ wrote_ks.others c i x)).1 (let l = s.lies in rw (put_ks.as_long, wrote_ks.as_long) l) s
 
   pub settled_so : Settled m m' a b
   settled_so = record {
-    stands = stands_so;
-    tabled = tabled_alike m₁ m' (settled_alike m₁) P.kept.tabled;
-    unmarked = subst Unmarked (sym settled_is) (forgets_all m₃ (summed_m₃ fore refl refl refl P.fore_summed) (summed_m₃ hind refl refl refl P.hind_summed));
-    as_long = as_long;
-    same_tally = tally_same;
-    same_ids = ids_same;
-    same_chain = chain_same;
-    same_edges = edges_alike m₁ m' (settled_alike m₁).same ∙ P.kept.same_edges;
+    is_row = row_again;
+    is_table = table_kept written_columns refl m m' wrote_so R.is_table;
+    unmarked =
+        subst Unmarked (sym settled_is)
+        (forgets_all m₃ (summed_m₃ FORE.column refl refl P.fore_summed) (summed_m₃ HIND.column refl refl P.hind_summed));
+    wrote = wrote_so;
+    same_edges = edges_kept written_columns refl m m' wrote_so;
     same_used = used_so;
-    at_place = λ s u. sym (place_slot m' stands_so s (used_so s ∙ u));
+    same_taken = taken_so;
     is_firm = ap (λ (x : List ℕ). firm r a b x) firm_so ∙ firm_is r f a b open_so back_row;
     keeps_links = ap (λ (x : List ℕ). keeps x (with_link r a b)) firm_so ∙ firm_keeps r f a b open_so back_row;
   }
 
-pub settles : Settles
-settles m m₁ a b R ua ub back P = settled_so m m₁ a b R ua ub back P
+pub settles : (m₁ m' : List ℕ) → m' ≡ settled m₁ → Settles m₁ m'
+unfolding Settles
+settles m₁ m' e m a b R ua ub back P = rw e (settled_so m m₁ a b R ua ub back P)

@@ -1,108 +1,139 @@
--- Slots and places after an exchange: what stands, stands with the slots of some places in another order. Over any columns.
-use Rattle.std.proofs.Common.{◌≡◌, ℕ, ◌+◌, ◌<◌, Bool, true, false, ◌&&◌, eqb, ltb, List, length, sym, ap, ◌∙◌, ap₂, inl, inr, arith}
-use Rattle.std.proofs.lemmas.Bool.{cases_Bool, cases_lt, both_ways, lt-ltb, le-ltb}
-use Rattle.row.specs.Lists.{has, distinct}
-use Rattle.row.specs.Lookup.{bucket}
-use Rattle.row.specs.Meaning.{in_use, Chains, Standing}
-use Rattle.row.proofs.Chaining.{spells_move}
+-- Slots and seats after an exchange: a row that stands stands with the slots of some seats in another order. Over any columns.
+use Rattle.std.proofs.Common.{◌≡◌, ℕ, ◌<◌, Bool, true, false, ◌&&◌, eqb, ltb, List, [], ◌∷◌, length, sym, ap, ◌∙◌, subst, inl, inr, arith}
+use Rattle.std.proofs.lemmas.Bool.{cases_Bool, both_ways, lt-ltb, eq-eqb, eqb-true, and_from}
+use Rattle.order.specs.declared.board.TheConstants.{CARDS}
+use Rattle.order.specs.Lists.{has, distinct}
+use Rattle.order.proofs.Members.{has_head, has_tail}
+use Rattle.row.specs.Meaning.{in_use, Seating, Stacked, Chains, Freed, Standing}
 use Rattle.search.proofs.Exchanged.{exchanged, exchanged_out, exchanged_in, exchanged_back}
 
--- ks are the slots at the places ps, below n, in another order
-pub record Rearranges (n : ℕ) (slot : ℕ → ℕ) (ps ks : List ℕ) : Type 0 where
-  pub low : (p : ℕ) → has ps p ≡ true → p < n
+-- ks are the slots at the seats ps, all held, in another order
+pub record Rearranges (held : ℕ → Bool) (slot : ℕ → ℕ) (ps ks : List ℕ) : Type 0 where
+  pub seats_held : (p : ℕ) → has ps p ≡ true → held p ≡ true
   pub as_many : length ks ≡ length ps
   pub ps_once : distinct ps ≡ true
   pub ks_once : distinct ks ≡ true
   pub from : (s : ℕ) → has ks s ≡ true → (p : ℕ) × (has ps p ≡ true) × (slot p ≡ s)
   pub all : (p : ℕ) → has ps p ≡ true → has ks (slot p) ≡ true
 
--- the columns after they got the places ps
-pub record Seats (ps ks : List ℕ) (id next slot place id' next' slot' place' : ℕ → ℕ) : Type 0 where
-  pub id_same : (t : ℕ) → id' t ≡ id t
-  pub next_same : (p : ℕ) → next' p ≡ next p
-  pub slot_is : (p : ℕ) → slot' p ≡ exchanged slot ps ks p
-  pub place_is : (t : ℕ) → place' t ≡ exchanged place ks ps t
+stacked_same : (seat seat' : ℕ → ℕ) (t : ℕ) (xs : List ℕ) → ((s : ℕ) → has xs s ≡ true → seat' s ≡ seat s) → Stacked seat t xs → Stacked seat' t xs
+stacked_same seat seat' t [] h k = k
+stacked_same seat seat' t (s ∷ ss) h k =
+    (k.0, subst (λ (x : ℕ). Stacked seat' x ss) (sym (h s (has_head s ss))) (stacked_same seat seat' (seat s) ss (λ i e. h i (has_tail s ss i e)) k.1))
 
-module _ (n f : ℕ) (ps ks : List ℕ) (id next slot place id' next' slot' place' : ℕ → ℕ) (S : Standing n f id next slot place)
-    (R : Rearranges n slot ps ks) (E : Seats ps ks id next slot place id' next' slot' place') where
-  below : (p : ℕ) → has ps p ≡ true → p < f
-  below p h = omega (arith, R.low p h, S.few)
+module _ (n e f top : ℕ) (ps ks : List ℕ) (id next slot seat : ℕ → ℕ) (held : ℕ → Bool) (S : Standing n e f top id next slot seat held)
+    (R : Rearranges held slot ps ks) (slot' seat' : ℕ → ℕ) (slot_is : (p : ℕ) → slot' p ≡ exchanged slot ps ks p)
+    (seat_is : (s : ℕ) → seat' s ≡ exchanged seat ks ps s) where
+  abbrev st : Seating n e slot seat held
+  st = S.seated
 
-  -- the places, and the slots, that are exchanged, and those that aren't
-  slot_in : (p : ℕ) → has ps p ≡ true → (has ks (slot' p) ≡ true) × (place' (slot' p) ≡ p)
+  -- the seats, and the slots, that are exchanged, and those that aren't
+  slot_in : (p : ℕ) → has ps p ≡ true → (has ks (slot' p) ≡ true) × (seat' (slot' p) ≡ p)
   slot_in p h =
-      let e = E.slot_is p in (
-        ap (has ks) e ∙ exchanged_in slot ps ks p R.as_many h,
-        ap place' e ∙ E.place_is _ ∙ exchanged_back slot place ps ks p R.as_many R.ps_once R.ks_once h,
+      let i = slot_is p in (
+        ap (has ks) i ∙ exchanged_in slot ps ks p R.as_many h,
+        ap seat' i ∙ seat_is _ ∙ exchanged_back slot seat ps ks p R.as_many R.ps_once R.ks_once h,
       )
 
-  place_in : (t : ℕ) → has ks t ≡ true → (has ps (place' t) ≡ true) × (slot' (place' t) ≡ t)
-  place_in t h =
-      let e = E.place_is t in (
-        ap (has ps) e ∙ exchanged_in place ks ps t (sym R.as_many) h,
-        ap slot' e ∙ E.slot_is _ ∙ exchanged_back place slot ks ps t (sym R.as_many) R.ks_once R.ps_once h,
+  seat_in : (s : ℕ) → has ks s ≡ true → (has ps (seat' s) ≡ true) × (slot' (seat' s) ≡ s)
+  seat_in s h =
+      let i = seat_is s in (
+        ap (has ps) i ∙ exchanged_in seat ks ps s (sym R.as_many) h,
+        ap slot' i ∙ slot_is _ ∙ exchanged_back seat slot ks ps s (sym R.as_many) R.ks_once R.ps_once h,
       )
 
-  -- a slot that is exchanged was at a place that is
-  pub slot_was : (t : ℕ) → has ks t ≡ true → (t < f) × (has ps (place t) ≡ true)
-  slot_was t h =
-      let w = R.from t h in
-      let u = S.slot_at w.0 (below w.0 w.1) in
-      (omega (arith, w.2, u.0), ap (λ (x : ℕ). has ps (place x)) (sym w.2) ∙ ap (has ps) u.1 ∙ w.1)
+  -- a slot that is exchanged was at a seat that is
+  slot_was : (s : ℕ) → has ks s ≡ true → (s < CARDS) × (has ps (seat s) ≡ true) × (slot (seat s) ≡ s)
+  slot_was s h =
+      let w = R.from s h in
+      let u = R.seats_held w.0 w.1 in
+      let i : seat s ≡ w.0 = ap seat (sym w.2) ∙ st.seat_of w.0 u in
+      (let l = st.low w.0 u in let k = w.2 in omega arith, ap (has ps) i ∙ w.1, ap slot i ∙ w.2)
 
-  pub slot_out : (p : ℕ) → p < f → has ps p ≡ false → (slot' p ≡ slot p) × (place' (slot p) ≡ p)
+  slot_out : (p : ℕ) → held p ≡ true → has ps p ≡ false → (slot' p ≡ slot p) × (seat' (slot p) ≡ p)
   slot_out p l h =
-      let u = S.slot_at p l in
+      let u = st.seat_of p l in
       let z : has ks (slot p) ≡ false = elim (cases_Bool (has ks (slot p))) [
-        | inl e ↦ absurd (both_ways (has ps p) h (ap (has ps) (sym u.1) ∙ (slot_was (slot p) e).1))
-        | inr e ↦ e
+        | inl i ↦ absurd (both_ways (has ps p) h (ap (has ps) (sym u) ∙ (slot_was (slot p) i).1))
+        | inr i ↦ i
       ] in
-      (E.slot_is p ∙ exchanged_out slot ps ks p h, E.place_is (slot p) ∙ exchanged_out place ks ps (slot p) z ∙ u.1)
+      (slot_is p ∙ exchanged_out slot ps ks p h, seat_is (slot p) ∙ exchanged_out seat ks ps (slot p) z ∙ u)
 
-  pub place_out : (t : ℕ) → t < f → has ks t ≡ false → (place' t ≡ place t) × (slot' (place t) ≡ t)
-  place_out t l h =
-      let u = S.place_at t l in
-      let z : has ps (place t) ≡ false = elim (cases_Bool (has ps (place t))) [
-        | inl e ↦ absurd (both_ways (has ks t) h (ap (has ks) (sym u.1) ∙ R.all (place t) e))
-        | inr e ↦ e
-      ] in
-      (E.place_is t ∙ exchanged_out place ks ps t h, E.slot_is (place t) ∙ exchanged_out slot ps ks (place t) z ∙ u.1)
+  seat_out : (s : ℕ) → has ks s ≡ false → seat' s ≡ seat s
+  seat_out s h = seat_is s ∙ exchanged_out seat ks ps s h
 
-  pub used_same : (t : ℕ) → in_use n f place' t ≡ in_use n f place t
-  used_same t = elim (cases_lt t f) [
-    | inl l ↦ elim (cases_Bool (has ks t)) [
-      | inl h ↦
-          let a = lt-ltb (place' t) n (R.low (place' t) (place_in t h).0) in
-          let b = lt-ltb (place t) n (R.low (place t) (slot_was t h).1) in
-          ap (λ (z : Bool). ltb t f && z) (a ∙ sym b)
-      | inr h ↦ ap (λ (x : ℕ). ltb t f && ltb x n) (place_out t l h).0
+  -- a slot is in use as it was
+  sits : (ℕ → ℕ) → (ℕ → ℕ) → ℕ → Bool
+  sits r t k = held (t k) && eqb (r (t k)) k
+
+  sits_same : (k : ℕ) → (held (seat' k) && eqb (slot' (seat' k)) k) ≡ (held (seat k) && eqb (slot (seat k)) k)
+  sits_same k = elim (cases_Bool (has ks k)) [
+    | inl h ↦
+        let a = seat_in k h in let b = slot_was k h in
+        and_from _ _ (R.seats_held (seat' k) a.0) (eq-eqb _ _ a.1) ∙ sym (and_from _ _ (R.seats_held (seat k) b.1) (eq-eqb _ _ b.2))
+    | inr h ↦ ap (λ (p : ℕ). held p && eqb (slot' p) k) (seat_out k h) ∙ elim (cases_Bool (has ps (seat k))) [
+      | inl i ↦
+          let a : eqb (slot' (seat k)) k ≡ false = unlike (slot' (seat k)) k (slot_in (seat k) i).0 h in
+          let b : eqb (slot (seat k)) k ≡ false = unlike (slot (seat k)) k (R.all (seat k) i) h in
+          rw (a, b)
+      | inr i ↦ ap (λ (x : ℕ). held (seat k) && eqb x k) (slot_is (seat k) ∙ exchanged_out slot ps ks (seat k) i)
     ]
-    | inr l ↦ let z = le-ltb t f l in rw z
+  ]
+    where
+      unlike : (x k : ℕ) → has ks x ≡ true → has ks k ≡ false → eqb x k ≡ false
+      unlike x k a b = elim (cases_Bool (eqb x k)) [
+        | inl i ↦ absurd (both_ways (has ks k) b (ap (has ks) (sym (eqb-true x k i)) ∙ a))
+        | inr i ↦ i
+      ]
+
+  pub used_same : (k : ℕ) → in_use slot' seat' held k ≡ in_use slot seat held k
+  unfolding in_use
+  used_same k = ap (λ (b : Bool). ltb k CARDS && b) (sits_same k)
+
+  used_all : in_use slot' seat' held ≡ in_use slot seat held
+  used_all = λ t k. used_same k t
+
+  seated_again : Seating n e slot' seat' held
+  seated_again = record {
+    counts = st.counts;
+    below = st.below;
+    low = λ p h. elim (cases_Bool (has ps p)) [
+      | inl i ↦ (slot_was (slot' p) (slot_in p i).0).0
+      | inr i ↦ let a = (slot_out p h i).0 in let b = st.low p h in omega arith
+    ];
+    seat_of = λ p h. elim (cases_Bool (has ps p)) [
+      | inl i ↦ (slot_in p i).1
+      | inr i ↦ let a = slot_out p h i in ap seat' a.0 ∙ a.1
+    ];
+  }
+
+  -- a free slot isn't exchanged
+  free_out : (s : ℕ) → in_use slot seat held s ≡ false → has ks s ≡ false
+  unfolding in_use
+  free_out s h = elim (cases_Bool (has ks s)) [
+    | inl i ↦
+        let a = slot_was s i in
+        absurd (both_ways _ h (and_from _ _ (lt-ltb s CARDS a.0) (and_from _ _ (R.seats_held (seat s) a.1) (eq-eqb _ _ a.2))))
+    | inr i ↦ i
   ]
 
-  seated_chains : Chains next' id' (in_use n f place')
-  seated_chains =
-      let C = S.chains in
+  freed_again : Freed n f top seat' (in_use slot seat held)
+  freed_again =
+      let F = S.freed in
       record {
-        of = C.of;
-        spells = λ b l. spells_move next next' (C.of b) b b (C.spells b l) (E.next_same b) (λ t h. E.next_same (8192 + t));
-        once = C.once;
-        holds = λ b t l. C.holds b t l ∙ ap₂ ◌&&◌ (sym (used_same t)) (ap (λ (x : ℕ). eqb (bucket x) b) (sym (E.id_same t)));
+        stack = F.stack;
+        stacked = stacked_same seat seat' top F.stack (λ s h. seat_out s (free_out s (F.unused s h).1)) F.stacked;
+        once = F.once;
+        unused = F.unused;
+        early = F.early;
+        all = F.all;
+        few = F.few;
       }
 
-  pub seated_standing : Standing n f id' next' slot' place'
-  seated_standing = record {
-    few = S.few;
-    room = S.room;
-    slot_at = λ p h. elim (cases_Bool (has ps p)) [
-      | inl i ↦ let a = slot_in p i in ((slot_was (slot' p) a.0).0, a.1)
-      | inr i ↦ let a = slot_out p h i in (omega (arith, a.0, (S.slot_at p h).0), ap place' a.0 ∙ a.1)
-    ];
-    place_at = λ t h. elim (cases_Bool (has ks t)) [
-      | inl i ↦ let a = place_in t i in (below (place' t) a.0, a.1)
-      | inr i ↦ let a = place_out t h i in (omega (arith, a.0, (S.place_at t h).0), ap slot' a.0 ∙ a.1)
-    ];
-    one_slot = λ s t x y e.
-        S.one_slot s t (sym (used_same s) ∙ x) (sym (used_same t) ∙ y) (sym (E.id_same s) ∙ e ∙ E.id_same t);
-    chains = seated_chains;
+  pub standing_again : Standing n e f top id next slot' seat' held
+  standing_again = record {
+    seated = seated_again;
+    one_slot = λ s t x y i. S.one_slot s t (sym (used_same s) ∙ x) (sym (used_same t) ∙ y) i;
+    chains = subst (λ (live : ℕ → Bool). Chains next id live) (sym used_all) S.chains;
+    freed = subst (λ (live : ℕ → Bool). Freed n f top seat' live) (sym used_all) freed_again;
   }

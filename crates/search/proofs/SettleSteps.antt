@@ -1,12 +1,12 @@
--- The steps of the loops that gather the slots and give them their places.
+-- The steps of the loops that gather the slots and give them their seats.
 use Rattle.std.proofs.Common.{◌≡◌, ℕ, ◌+◌, ◌-◌, ◌<◌, ◌≤◌, List, Option}
-use Rattle.row.specs.declared.column.Column.{Column}
-use Rattle.row.specs.Columns.{cell, written}
-use Rattle.row.specs.Layout.{slots}
-use Rattle.row.specs.Lookup.{given}
-use Rattle.row.proofs.Fuel.{fuel_step, fuel_end}
-use Rattle.search.specs.Layout.{chosen}
-use Rattle.search.specs.Marks.{next_up}
+use Rattle.memory.specs.declared.column.Column.{Column}
+use Rattle.memory.specs.Columns.{cell, written}
+use Rattle.memory.specs.Options.{given}
+use Rattle.memory.specs.PlaceSets.{next_up}
+use Rattle.memory.proofs.Fuel.{fuel_step, fuel_end}
+use Rattle.row.specs.declared.layout.TheConstants.{SLOTS}
+use Rattle.search.specs.declared.layout.TheConstants.{CHOSEN}
 use Rattle.search.specs.Settle.{Gathered, gathered, both_next, seated, dealt}
 
 abbrev pub all : List ℕ → ℕ → Gathered
@@ -14,7 +14,7 @@ all m i = record { memory = m; end = i }
 
 pub gathered_at : (N j : ℕ) (m : List ℕ) (c : Column) (o : Option ℕ) (i : ℕ) → j < N →
     gathered (N - j) m c o i ≡ given o (all m i)
-    (λ p. gathered (N - (j + 1)) (written m chosen i (cell m slots p)) c (next_up (written m chosen i (cell m slots p)) c p) (i + 1))
+    (λ p. gathered (N - (j + 1)) (written m CHOSEN i (cell m SLOTS p)) c (next_up (written m CHOSEN i (cell m SLOTS p)) c p) (i + 1))
 unfolding gathered
 gathered_at N j m c o i h = fuel_step (λ f. gathered f m c o i) N j h
 

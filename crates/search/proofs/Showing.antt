@@ -11,11 +11,11 @@ use Rattle.memory.specs.Columns.{cell}
 use Rattle.memory.specs.PlaceSets.{marked}
 use Rattle.row.specs.declared.layout.TheConstants.{IDS, SEATS}
 use Rattle.row.specs.Meaning.{row_of, used}
+use Rattle.row.proofs.Rows.{seated, length_row, has_is}
 use Rattle.search.specs.declared.layout.TheConstants.{VIA, FORE, HIND}
 use Rattle.search.specs.Meaning.{slot_board, Ready, Trailed}
 use Rattle.search.specs.Way.{trail, way, shown, ShownSo}
 use Rattle.search.specs.WayLaws.{way_of, Round, ShowsWay}
-use Rattle.search.proofs.Assumed.{has_is, row_few}
 use Rattle.search.proofs.Joining.{way_few, shown_is}
 use Rattle.search.proofs.Rounds.{Runs, runs_more, runs_round, onward, turned_round, short}
 
@@ -27,7 +27,10 @@ module _ (m : List ℕ) (R : Ready m) where
   slot_climbs s t u v l = link_before (slot_board m) (fine_parts _ R.fine_so) s t l
 
   low : (s : ℕ) → used m s ≡ true → at s < length (row_of m)
-  low s u = place_below (row_of m) s (has_is m R.is_row s ∙ u)
+  low s u = place_below (row_of m) s (has_is m (seated m R.is_row) s ∙ u)
+
+  few : length (row_of m) ≤ CARDS
+  few = omega (arith, length_row m (seated m R.is_row), R.is_row.stands.freed.all, R.is_row.stands.freed.few)
 
   module _ (m' : List ℕ) (a b x t : ℕ) (T : Trailed m m' a b x t) where
     abbrev back : List ℕ
@@ -41,14 +44,14 @@ module _ (m : List ℕ) (R : Ready m) where
         let k = short (slot_board m) (used m) (λ s. marked m' FORE.column (cell m SEATS s)) at (cell m' VIA) slot_climbs b T.fore_trail CARDS x
         T.x_used T.x_fore in
         let l = slot_climbs x t T.x_used T.t_used T.joined in
-        let f = row_few m R.is_row in
+        let f = few in
         onward (slot_board m) (used m) (λ s. marked m' HIND.column (cell m SEATS s)) at (cell m' VIA) slot_climbs a T.hind_trail (length (row_of m))
         (CARDS - length back) t low T.t_used T.t_hind (omega arith)
 
     way_runs : Runs (slot_board m) (used m) b a (way_of m' a b x t)
     unfolding way
     way_runs =
-        let f = row_few m R.is_row in
+        let f = few in
         let w = turned_round (slot_board m) (used m) (λ s. marked m' FORE.column (cell m SEATS s)) at (cell m' VIA) slot_climbs b T.fore_trail CARDS x
         a on T.x_used T.x_fore (omega (arith, low x T.x_used))
         (runs_more (slot_board m) (used m) x t a on T.x_used T.joined on_runs) in

@@ -49,11 +49,12 @@ struct Search {
 
 impl Search {
     // Comes from one slot to another, unless that sits outside the part or the other search has come to it; says whether this has.
-    #[tactic(auto, unfolding(crate::specs::Hunt::sees, crate::specs::Hunt::entered, memory::specs::PlaceSets::added))]
+    #[tactic(auto, using(crate::proofs::Touching::entered_wrote), unfolding(crate::specs::Hunt::sees, crate::specs::Hunt::entered, memory::specs::PlaceSets::added))]
     #[inline(always)]
     fn enter(self, memory: &mut Memory, from: u64, to: u64) -> bool
         ensures is { result ≡ sees memory.old self.side self.part to }
         ensures after { memory.new ≡ entered memory.old self.side self.part from to }
+        ensures wrote { Writes searched memory.old memory.new }
     {
         let seat = SEATS.get(memory, to);
         if !self.part.has(seat) {
@@ -70,11 +71,12 @@ impl Search {
 
     // One turn of a walk through the chain of a slot. It ends with the slot at which the other search was met, or with none at the end of the chain; else
     // it tells the place at which the walk goes on.
-    #[tactic(auto, unfolding(crate::specs::Hunt::turn))]
+    #[tactic(auto, using(memory::proofs::Footprints::footprints), unfolding(crate::specs::Hunt::turn))]
     #[inline(always)]
     fn take_turn(self, memory: &mut Memory, slot: u64, place: u64) -> ControlFlow<Option<u64>, u64>
         ensures is { result ≡ (turn memory.old self.side self.part slot place).told }
         ensures after { memory.new ≡ (turn memory.old self.side self.part slot place).memory }
+        ensures wrote { Writes searched memory.old memory.new }
     {
         let table = self.side.table();
         let Some(pointer) = table.follow(memory, place) else {
@@ -88,10 +90,11 @@ impl Search {
 
     // Comes to all that a slot is linked to, and tells what is left of the fuel; it ends with the slot at which the other search is met, if it is. A garbage
     // memory may go round, so the fuel counts the turns.
-    #[tactic(auto, using(crate::proofs::Hunting::spreads))]
+    #[tactic(auto, using(crate::proofs::Hunting::spreads, memory::proofs::Footprints::footprints))]
     fn spread_from(self, memory: &mut Memory, slot: u64, fuel: u64) -> ControlFlow<u64, u64>
         ensures is { result ≡ (spreading fuel memory.old self.side self.part slot slot).spread }
         ensures after { memory.new ≡ (spreading fuel memory.old self.side self.part slot slot).memory }
+        ensures wrote { Writes searched memory.old memory.new }
     {
         let mut place = slot;
         for i in 0..fuel {
@@ -133,10 +136,11 @@ impl Front {
     }
 
     // Goes on from the card at the cursor, if there is one, and tells where the search stands then; it ends with the link at which it met the other.
-    #[tactic(auto, unfolding(crate::specs::Hunt::gone_on))]
+    #[tactic(auto, using(memory::proofs::Footprints::footprints), unfolding(crate::specs::Hunt::gone_on))]
     fn go_on(self, memory: &mut Memory, part: Part) -> ControlFlow<Link, Front>
         ensures is { result ≡ (gone_on memory.old part self).advance }
         ensures after { memory.new ≡ (gone_on memory.old part self).memory }
+        ensures wrote { Writes searched memory.old memory.new }
     {
         let Some(seat) = self.cursor else {
             return ControlFlow::Continue(self);
@@ -159,10 +163,11 @@ impl Front {
 }
 
 // Two searches in turn, until they meet or neither has anything to go on from. The part stands beside them, since it's one for both.
-#[tactic(auto, using(crate::proofs::Hunting::hunts))]
+#[tactic(auto, using(crate::proofs::Hunting::hunts, memory::proofs::Footprints::footprints))]
 fn hunt(memory: &mut Memory, part: Part, mut near: Front, mut far: Front) -> Option<Link>
     ensures is { result ≡ (hunted TURNS memory.old part near far).answer }
     ensures after { memory.new ≡ (hunted TURNS memory.old part near far).memory }
+    ensures wrote { Writes searched memory.old memory.new }
 {
     for _turn in 0..TURNS {
         if near.is_idle() && far.is_idle() {
@@ -178,10 +183,12 @@ fn hunt(memory: &mut Memory, part: Part, mut near: Front, mut far: Front) -> Opt
 
 // For a link between slots that goes backward: whether links lead from its second end to its first. Says a link at which the searches from both ends
 // met; none if they went to their ends.
-#[tactic(auto, unfolding(crate::specs::Hunt::meeting))]
+#[tactic(auto, using(crate::proofs::Starting::meets_so, crate::proofs::Touching::writes_met), unfolding(crate::specs::Hunt::meeting))]
 pub fn meet(memory: &mut Memory, link: Link) -> Option<Link>
     ensures is { result ≡ (meeting memory.old link).answer }
     ensures after { memory.new ≡ (meeting memory.old link).memory }
+    ensures law { Meets memory.old link result memory.new }
+    ensures wrote { Writes searched memory.old memory.new }
 {
     let low = SEATS.get(memory, link.to);
     let high = SEATS.get(memory, link.from);

@@ -10,5 +10,5 @@ returns c =
     let i = c.show_and_forget-n.ensures.way.count in
     let o = c.show_and_forget-n.ensures.way.out in
     let a = c.show_and_forget-n.ensures.after in
-    let n = c.note.ensures in
+    let n = c.note.ensures.is in
     record { act = cc; after = cc; out = cc }

@@ -1,7 +1,12 @@
 use Rattle.std.proofs.Common.{◌≡◌, ◌-◌}
+use Rattle.memory.specs.Footprints.{Writes}
 use Rattle.search.specs.declared.hunt.TheConstants.{TURNS}
+use Rattle.search.specs.Columns.{searched}
 use Rattle.search.specs.Hunt.{hunted}
 use Rattle.search.proofs.hunt.hunt.Given as goal
 
 abbrev pub invariant-loop-turn : goal.invariant-loop-turn
-invariant-loop-turn l = hunted (TURNS - l._turn) l.memory l.part l.near l.far ≡ hunted TURNS l.initial.memory l.part l.initial.near l.initial.far
+invariant-loop-turn l = record {
+  is : hunted (TURNS - l._turn) l.memory l.part l.near l.far ≡ hunted TURNS l.initial.memory l.part l.initial.near l.initial.far;
+  wrote : Writes searched l.initial.memory l.memory;
+}

@@ -1,6 +1,12 @@
-use Rattle.std.proofs.Common.{◌≡◌, ◌+◌, ◌-◌}
+use Rattle.std.proofs.Common.{◌≡◌, ◌+◌, ◌-◌, [], ◌∷◌}
+use Rattle.order.specs.declared.board.TheConstants.{CARDS}
+use Rattle.memory.specs.Footprints.{Writes}
+use Rattle.search.specs.declared.layout.TheConstants.{CHOSEN}
 use Rattle.search.specs.Settle.{gathered, gathers}
 use Rattle.search.proofs.settling.gather.Given as goal
 
 abbrev pub invariant-loop-end : goal.invariant-loop-end
-invariant-loop-end l = gathered (l.from + 8192 - l.end) l.memory l.marks.column l.next l.end ≡ gathers l.initial.memory l.marks.column l.from
+invariant-loop-end l = record {
+  is : gathered (l.from + CARDS - l.end) l.memory l.set.column l.next l.end ≡ gathers l.initial.memory l.set.column l.from;
+  wrote : Writes (CHOSEN ∷ []) l.initial.memory l.memory;
+}

@@ -1,8 +1,11 @@
 use Rattle.std.proofs.Common.{◌≡◌, ◌-◌}
+use Rattle.memory.specs.Footprints.{Writes}
+use Rattle.search.specs.Columns.{searched}
 use Rattle.search.specs.Hunt.{spreading}
 use Rattle.search.proofs.hunt.Search.spread_from.Given as goal
 
 abbrev pub invariant-loop-i : goal.invariant-loop-i
-invariant-loop-i l =
-    spreading (l.fuel - l.i) l.memory l.self.side l.self.part l.slot l.place
-    ≡ spreading l.fuel l.initial.memory l.self.side l.self.part l.slot l.slot
+invariant-loop-i l = record {
+  is : spreading (l.fuel - l.i) l.memory l.self.side l.self.part l.slot l.place ≡ spreading l.fuel l.initial.memory l.self.side l.self.part l.slot l.slot;
+  wrote : Writes searched l.initial.memory l.memory;
+}
