@@ -1,8 +1,8 @@
 // As many cards and links as there may be.
 use crate::cases::{done, link, refused, round, unlink};
 use crate::player::Player;
-use keeper::LINKS;
 use command::Command;
+use keeper::LINKS;
 use order::{Link, Refusal};
 use std::process::Abort;
 use std::test::Fail;

@@ -7,20 +7,26 @@ mod tests {
         Chain, ENTRIES, Meeting, find, from_of, insert, len, rebuild, remove, remove_all,
         take_step, to_of,
     };
+    use memory::{MEMORY, Memory};
     use order::{Link, Refusal};
     use std::process::Abort;
     use std::test::Fail;
 
-    // How many numbers of memory are lent.
-    const MEMORY: usize = 524288;
-
     // The turns of a walk: one to each entry, and one to the end of the chain. They are counted so that the walk ends, whatever the memory holds.
     const TURNS: u64 = ENTRIES + 1;
+
+    // The memory as its length is known.
+    fn lent(memory: &mut [u64]) -> Result<&mut Memory, Fail> {
+        let Some(memory) = memory.as_mut_array() else {
+            return Err(Fail::new("a memory of another length"));
+        };
+        Ok(memory)
+    }
 
     // The slots at the other ends of a slot's links, the newest link first.
     fn walk(
         rt: &impl AllocGlobal,
-        memory: &mut [u64],
+        memory: &mut Memory,
         chain: Chain,
         slot: u64,
     ) -> Result<Vec<u64>, Fail> {
@@ -45,7 +51,7 @@ mod tests {
     // Sees that a walk meets just the slots that are due.
     fn check_walk(
         rt: &(impl Abort + AllocGlobal),
-        memory: &mut [u64],
+        memory: &mut Memory,
         chain: Chain,
         slot: u64,
         due: &[u64],
@@ -58,7 +64,7 @@ mod tests {
     #[test]
     fn taken_back_and_put_in_again(rt: HostRuntime) -> Result<(), Fail> {
         let mut v = vec![in rt.alloc(); 0u64; MEMORY]?;
-        let memory = v.as_mut_slice();
+        let memory = lent(v.as_mut_slice())?;
         insert(memory, Link { from: 1, to: 2 });
         assert_eq!(rt; find(memory, Link { from: 1, to: 2 }), Some(0));
         assert_eq!(rt; find(memory, Link { from: 2, to: 1 }), None);
@@ -79,7 +85,7 @@ mod tests {
     #[test]
     fn old_links_of_a_slot_stay_gone(rt: HostRuntime) -> Result<(), Fail> {
         let mut v = vec![in rt.alloc(); 0u64; MEMORY]?;
-        let memory = v.as_mut_slice();
+        let memory = lent(v.as_mut_slice())?;
         insert(memory, Link { from: 5, to: 6 });
         insert(memory, Link { from: 6, to: 7 });
         insert(memory, Link { from: 6, to: 9 });
@@ -105,7 +111,7 @@ mod tests {
     #[test]
     fn built_again_when_most_are_dead(rt: HostRuntime) -> Result<(), Fail> {
         let mut v = vec![in rt.alloc(); 0u64; MEMORY]?;
-        let memory = v.as_mut_slice();
+        let memory = lent(v.as_mut_slice())?;
         let one_more = Link {
             from: 5048,
             to: 5049,
@@ -137,7 +143,7 @@ mod tests {
     #[test]
     fn built_again_when_full(rt: HostRuntime) -> Result<(), Fail> {
         let mut v = vec![in rt.alloc(); 0u64; MEMORY]?;
-        let memory = v.as_mut_slice();
+        let memory = lent(v.as_mut_slice())?;
         for i in 0..65536u64 {
             insert(
                 memory,
