@@ -12,7 +12,7 @@ pub const OUTPUT: usize = CARDS as usize;
 pub type Output = [u64; OUTPUT];
 
 // How many cards are told at once.
-pub(crate) const TOLD: u64 = 4096;
+pub const TOLD: u64 = 4096;
 
 // What is still to come of the last command.
 pub const PENDING: Column = Column {

@@ -12,7 +12,7 @@ mod telling;
 mod theory;
 
 pub use event::{Act, Event, Reason, Telling};
-pub use layout::{MORE_FROM, MORE_TO, OUTPUT, Output, PENDING};
+pub use layout::{MORE_FROM, MORE_TO, OUTPUT, Output, PENDING, TOLD};
 pub use linking::slots_of;
 pub use memory::{MEMORY, Memory};
 pub use pending::Pending;
