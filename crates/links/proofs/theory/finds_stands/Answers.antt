@@ -1,5 +1,0 @@
-use Rattle.links.proofs.Operating.{finds}
-use Rattle.links.proofs.theory.finds_stands.Goals as goal
-
-pub returns : goal.returns
-returns c = finds
