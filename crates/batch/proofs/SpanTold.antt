@@ -20,7 +20,7 @@ use Rattle.keeper.specs.Sister.{within}
 use Rattle.keeper.specs.Meaning.{Means}
 use Rattle.keeper.proofs.Carrying.{Noted, noted, noted_ready, settles, is_pending, same_row}
 use Rattle.keeper.proofs.Parts.{Anew}
-use Rattle.keeper.proofs.ToldRuns.{from_first, told_run, went_more}
+use Rattle.keeper.proofs.ToldRuns.{from_first, ToldOut, told_run, went_more}
 use Rattle.batch.specs.declared.seating.Span.{Span}
 use Rattle.batch.specs.Saying.{noting, told_span}
 
@@ -76,14 +76,18 @@ module _ (m : List ℕ) (b : Board) (M : Means m b) (s : Span) (up : s.low ≤ s
   same_cards : cards k ≡ b.row
   same_cards = (same_row columns m k N refl).same_cards ∙ ap (λ (x : Board). x.row) (sym M.is)
 
+  T : ToldOut k s.low s.high
+  T =
+      let S = (noted_ready m k R N).is_row in
+      let e = ap length same_cards in
+      told_run k S (omega (arith, M.long, N.as_long)) s.low s.high up (omega (arith, low, length_cards k S))
+
   pub span_told : ToldSo m b s
-  span_told =
-      let T = told_run k (noted_ready m k R N) s.low s.high up (omega (arith, low, ap length same_cards)) in
-      record {
-        memory = leaves_pending T.memory 0;
-        parts = T.parts;
-        run = ap from_first (went_more k is_more ∙ ap₂ (told_part k) from_is to_is) ∙ T.run;
-        means = subst (Means (leaves_pending T.memory 0)) (sym M.is) (settles m T.memory R M.single M.long (on columns m k T.memory N T.only));
-        makes = λ row a. T.makes row (subst (λ (xs : List ℕ). Anew row xs s.low s.high) (sym same_cards) a) ∙ same_cards;
-        inside = T.inside;
-      }
+  span_told = record {
+    memory = leaves_pending T.memory 0;
+    parts = T.parts;
+    run = ap from_first (went_more k is_more ∙ ap₂ (told_part k) from_is to_is) ∙ T.run;
+    means = subst (Means (leaves_pending T.memory 0)) (sym M.is) (settles m T.memory R M.single M.long (on columns m k T.memory N T.only));
+    makes = λ row a. T.makes row (subst (λ (xs : List ℕ). Anew row xs s.low s.high) (sym same_cards) a) ∙ same_cards;
+    inside = T.inside;
+  }
