@@ -1,6 +1,6 @@
 // What a memory has of a board: its row, and its links, the oldest first.
 use keeper::{read_row, slots_of};
-use links::{find, from_of, to_of, used};
+use links::{AGE, ALL, ENTRIES, find};
 use memory::Memory;
 use order::{CARDS, Link};
 use row::IDS;
@@ -13,14 +13,12 @@ pub(crate) struct Board {
     pub links: Vec<Link>,
 }
 
-// The link of an entry of the table, if it is living.
-fn link_at(memory: &Memory, entry: u64) -> Option<Link> {
-    let from = from_of(memory, entry);
-    let to = to_of(memory, entry);
-    (from < CARDS).then_some(Link {
-        from: IDS.get(memory, from),
-        to: IDS.get(memory, to),
-    })
+// The link between cards that a pair of slots in one number stands for.
+fn link_of(memory: &Memory, pair: u64) -> Link {
+    Link {
+        from: IDS.get(memory, pair / CARDS),
+        to: IDS.get(memory, pair % CARDS),
+    }
 }
 
 // Whether a link is found in the table.
@@ -48,9 +46,11 @@ impl Board {
     // Reads the board, and sees that there are as many links as the memory says, and that each is found.
     pub(crate) fn read(rt: &(impl Abort + AllocGlobal), memory: &Memory) -> Result<Board, Fail> {
         let row = row_of(rt, memory)?;
-        let links: Vec<Link> = (0..used(memory))
-            .filter_map(|entry| link_at(memory, entry))
+        let mut links: Vec<Link> = AGE
+            .walk(memory, ALL, ENTRIES)
+            .map(|pointer| link_of(memory, pointer.label))
             .collect(rt.alloc())?;
+        links.as_mut_slice().reverse();
         assert_eq!(rt; links.len() as u64, links::len(memory));
         assert!(rt; links.iter().all(|link| has(memory, *link)));
         Ok(Board { row, links })

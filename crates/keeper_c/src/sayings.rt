@@ -1,5 +1,5 @@
 // Commands, and the row.
-ghost use Rattle.keeper.specs.Playing.{row_read, count_read};
+ghost use Rattle.keeper.specs.Playing.{row_read, read_count};
 ghost use Rattle.std.specs.Prelude.{◌≡◌};
 ghost use Rattle.order.specs.Board.{◌⟶◌};
 ghost use Rattle.command.specs.declared.command.Command.TheVariants.{Comes, Goes, Link as Links, Unlink as Unlinks, Places};
@@ -99,7 +99,7 @@ pub extern "C" fn keeper_places(
 // Writes the row to the front of `row`; says how many cards it has.
 #[unsafe(no_mangle)]
 pub extern "C" fn keeper_row(memory: &[u64], row: &mut [u64]) -> u64
-    ensures is { result ≡ count_read memory.now row.old }
+    ensures is { result ≡ read_count memory.now row.old }
     ensures row { row.new ≡ row_read memory.now row.old }
 {
     read_row(memory, row)
