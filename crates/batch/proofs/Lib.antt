@@ -91,3 +91,10 @@ pub mod CircleRenames
 pub mod AnewShown
 pub mod MakesAnew
 pub mod CardsIn
+pub mod Anys
+pub mod Denseness
+pub mod LinkByLink
+pub mod PackedMeans
+pub mod ReadyAgain
+pub mod SeatsMoved
+pub mod Writing

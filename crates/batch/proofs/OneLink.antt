@@ -5,8 +5,8 @@ use Rattle.order.specs.declared.board.Link.{Link}
 use Rattle.command.specs.declared.command.Command.TheVariants.{Link as Links}
 use Rattle.order.specs.Lists.{every, has, place, distinct}
 use Rattle.order.specs.Board.{Board, keeps, fine}
-use Rattle.order.specs.Reordering.{link_must_be, with_link, backward}
-use Rattle.command.specs.Commands.{must_be}
+use Rattle.order.specs.Reordering.{with_link, backward, link_must_be}
+use Rattle.command.specs.Commands.{may_be, must_be}
 use Rattle.order.proofs.Filters.{every_append, same_itself}
 use Rattle.order.proofs.Climbs.{fine_parts, link_before}
 use Rattle.order.proofs.Allowed.{Open, forward_kept, keeps_more}
@@ -32,6 +32,7 @@ module _ (r : Board) (fi : fine r ≡ true) (l : Link) where
   ]
 
   pub cards_stay : (row : List ℕ) → must_be r (Links l) row ≡ true → (distinct row ≡ true) × ((k : ℕ) → has row k ≡ has r.row k)
+  unfolding may_be
   cards_stay row m = link_has r (fine_parts r fi) l.from l.to row (must_may r (Links l) row m)
 
   pub fine_after : (has r.row l.from ≡ true) × (has r.row l.to ≡ true) → (row : List ℕ) → must_be r (Links l) row ≡ true →

@@ -28,3 +28,6 @@ pub mod Loading
 pub mod Circling
 pub mod MakingAnew
 pub mod AnewLaws
+pub mod Along
+pub mod Columns
+pub mod Dense
