@@ -2,12 +2,10 @@
 use Rattle.std.proofs.Common.{◌≡◌, ℕ, true, false, List, [], ◌∷◌, Some, refl, ◌∙◌, inl, inr, append_assoc, arith}
 use Rattle.std.proofs.lemmas.Bool.{eq-eqb, cases_Bool, both_ways, and_from, or_left, or_right}
 use Rattle.order.specs.declared.board.Link.{Link}
-use Rattle.command.specs.declared.command.Command.TheVariants.{Link as Links}
 use Rattle.order.specs.declared.board.Refusal.TheVariants.{Cycle}
 use Rattle.order.specs.Lists.{any, has}
 use Rattle.order.specs.Board.{Board, linked, fine, leads}
 use Rattle.order.specs.Reordering.{link_refusal}
-use Rattle.command.specs.Commands.{refusal}
 use Rattle.order.proofs.Climbs.{fine_parts, link_before}
 use Rattle.order.proofs.Leading.{leads_before}
 use Rattle.order.proofs.Circles.{round_there}
@@ -20,8 +18,8 @@ use Rattle.batch.proofs.CircleLinks.{circle_more, round_closed, never_kept}
 
 -- a link that goes round is refused for that
 round_refused : (r : Board) (l : Link) → fine r ≡ true → (has r.row l.from ≡ true) × (has r.row l.to ≡ true) → leads r l.to l.from ≡ true →
-    refusal r (Links l) ≡ Some Cycle
-unfolding refusal link_refusal
+    link_refusal r l ≡ Some Cycle
+unfolding link_refusal
 round_refused r l fi h e = elim (cases_Bool (linked r l.from l.to)) [
   | inl j ↦ absurd (omega (arith, link_before r (fine_parts r fi) _ _ j, leads_before r l.to l.from fi h.1 e))
   | inr j ↦ rw (h.0, h.1, j, e)

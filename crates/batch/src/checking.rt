@@ -6,6 +6,7 @@ ghost use Rattle.batch.specs.Checking.{all_found, known, repeated, widened, wide
 
 use crate::seating::Span;
 use keeper::slots_of;
+use memory::Memory;
 use order::{CARDS, Link};
 use row::seat_of;
 
@@ -43,7 +44,7 @@ impl Named {
 }
 
 // Whether each card that a link names is there.
-pub(crate) fn all_there(memory: &[u64], batch: &[Link]) -> bool
+pub(crate) fn all_there(memory: &Memory, batch: &[Link]) -> bool
     ensures { result ≡ all_found memory.now batch.now }
 {
     batch.iter().all(|link| slots_of(memory, *link).is_some())
@@ -51,21 +52,21 @@ pub(crate) fn all_there(memory: &[u64], batch: &[Link]) -> bool
 
 // Whether the link was said already.
 #[tactic(auto, unfolding(crate::specs::Checking::known))]
-fn is_known(memory: &[u64], link: Link) -> bool
+fn is_known(memory: &Memory, link: Link) -> bool
     ensures { result ≡ known memory.now link }
 {
     slots_of(memory, link).is_some_and(|slots| links::find(memory, slots).is_some())
 }
 
 // Whether the link was said already, or is one of these.
-fn is_said(memory: &[u64], before: &[Link], link: Link) -> bool
+fn is_said(memory: &Memory, before: &[Link], link: Link) -> bool
     ensures { result ≡ (known memory.now link || list_any (joins link) before.now) }
 {
     is_known(memory, link) || before.contains(&link)
 }
 
 // Whether one of the links was said already, or stands in the batch twice.
-pub(crate) fn repeats(memory: &[u64], batch: &[Link]) -> bool
+pub(crate) fn repeats(memory: &Memory, batch: &[Link]) -> bool
     ensures { result ≡ repeated memory.now [] batch.now }
 {
     batch
@@ -76,7 +77,7 @@ pub(crate) fn repeats(memory: &[u64], batch: &[Link]) -> bool
 
 // What is named, widened to the seats of a link's two cards.
 #[tactic(auto, unfolding(crate::specs::Checking::wider))]
-fn widen(memory: &[u64], link: Link, named: Named) -> Named
+fn widen(memory: &Memory, link: Link, named: Named) -> Named
     ensures { result ≡ wider memory.now link named }
 {
     let Some(slots) = slots_of(memory, link) else {
@@ -87,7 +88,7 @@ fn widen(memory: &[u64], link: Link, named: Named) -> Named
 
 // The part of the row from the first card that a link names to the last.
 #[tactic(auto, unfolding(crate::specs::Checking::spanned))]
-fn spanned(memory: &[u64], batch: &[Link]) -> Named
+fn spanned(memory: &Memory, batch: &[Link]) -> Named
     ensures { result ≡ spanned memory.now batch.now no_span }
 {
     batch
@@ -97,7 +98,7 @@ fn spanned(memory: &[u64], batch: &[Link]) -> Named
 
 // The part of the row that may change for the links: none, if the row keeps them already.
 #[tactic(auto, unfolding(crate::specs::Checking::moving))]
-pub(crate) fn span_of(memory: &[u64], batch: &[Link]) -> Option<Span>
+pub(crate) fn span_of(memory: &Memory, batch: &[Link]) -> Option<Span>
     ensures { result ≡ span memory.now batch.now }
 {
     let named = spanned(memory, batch);

@@ -4,6 +4,7 @@ ghost use Rattle.batch.specs.Joining.{joined_slots, joined, JoinedSo, tried, Tri
 
 use keeper::{Output, slots_of};
 use links::{insert, remove};
+use memory::Memory;
 use order::Link;
 use row::seat_of;
 use search::{meet, settle, show_and_forget};
@@ -18,7 +19,7 @@ pub(crate) struct Round {
 // Puts a link between slots in, with the row settled for it if it goes backward. If it would go round, the error is how many cards the way has, which
 // is written to the front of `out`.
 #[tactic(auto, using(search::proofs::Joining::shown_is), unfolding(crate::specs::Joining::joined_slots, keeper::specs::Reordering::round_cards))]
-fn join_slots(memory: &mut [u64], slots: Link, out: &mut Output) -> Result<(), u64>
+fn join_slots(memory: &mut Memory, slots: Link, out: &mut Output) -> Result<(), u64>
     ensures { JoinedSo (joined_slots memory.old slots) out.old result memory.new out.new }
 {
     if seat_of(memory, slots.to) < seat_of(memory, slots.from) {
@@ -34,7 +35,7 @@ fn join_slots(memory: &mut [u64], slots: Link, out: &mut Output) -> Result<(), u
 // Puts a link between cards in, if both are there, with the row settled for it if it goes backward. If it would go round, the error is how many cards
 // the way has, which is written to the front of `out`. A card before itself goes round: it is the way alone.
 #[tactic(auto, unfolding(crate::specs::Joining::joined))]
-fn join(memory: &mut [u64], link: Link, out: &mut Output) -> Result<(), u64>
+fn join(memory: &mut Memory, link: Link, out: &mut Output) -> Result<(), u64>
     ensures { JoinedSo (joined memory.old link) out.old result memory.new out.new }
 {
     let Some(slots) = slots_of(memory, link) else {
@@ -49,7 +50,7 @@ fn join(memory: &mut [u64], link: Link, out: &mut Output) -> Result<(), u64>
 
 // Tries the links one after the other, up to the first that goes round.
 #[tactic(auto, using(crate::proofs::Trying::trying))]
-pub(crate) fn join_all(memory: &mut [u64], batch: &[Link], out: &mut Output) -> Result<(), Round>
+pub(crate) fn join_all(memory: &mut Memory, batch: &[Link], out: &mut Output) -> Result<(), Round>
     ensures tried { TriedSo (tried memory.old batch.now 0) out.old result memory.new out.new }
     ensures within { IfErr result (λ round. round.count ≤ length batch.now) }
 {
@@ -61,7 +62,7 @@ pub(crate) fn join_all(memory: &mut [u64], batch: &[Link], out: &mut Output) -> 
 
 // Takes a link between cards out of the table.
 #[tactic(auto, unfolding(crate::specs::Joining::dropped))]
-fn drop_link(memory: &mut [u64], link: Link)
+fn drop_link(memory: &mut Memory, link: Link)
     ensures { memory.new ≡ dropped memory.old link }
 {
     if let Some(slots) = slots_of(memory, link) {
@@ -71,7 +72,7 @@ fn drop_link(memory: &mut [u64], link: Link)
 
 // Takes the links out of the table.
 #[tactic(auto, unfolding(crate::specs::Joining::taken_out))]
-pub(crate) fn take_out(memory: &mut [u64], batch: &[Link])
+pub(crate) fn take_out(memory: &mut Memory, batch: &[Link])
     ensures { memory.new ≡ taken_out memory.old batch.now }
 {
     for link in batch {
