@@ -4,7 +4,7 @@ use crate::dice::Dice;
 use crate::plausible::card_of;
 use keeper::LINKS;
 use links::{END, ENTRIES, FROM, IN, LIVE, OUT, PAIR, TO};
-use memory::Column;
+use memory::{Column, Memory};
 use order::{CARDS, Link};
 use row::{CHAINS, COUNT, FRESH, Family, IDS, TALLY, seat};
 use search::{FORE, HIND};
@@ -47,7 +47,7 @@ impl Ends {
     }
 
     // Makes the links of all entries lead there.
-    pub(crate) fn set(self, memory: &mut [u64], dice: &mut Dice) {
+    pub(crate) fn set(self, memory: &mut Memory, dice: &mut Dice) {
         for entry in 0..ENTRIES {
             let link = self.link(dice);
             FROM.set(memory, entry, link.from);
@@ -76,7 +76,7 @@ fn shuffle(order: &mut [u64], dice: &mut Dice) {
 }
 
 // Lays one circle through the entries in their order.
-fn link_up(memory: &mut [u64], family: Family, order: &[u64]) {
+fn link_up(memory: &mut Memory, family: Family, order: &[u64]) {
     let mut before = order.last().copied().unwrap_or(0);
     for entry in order {
         let pointer = family.heads.wrapping_add(before);
@@ -86,7 +86,7 @@ fn link_up(memory: &mut [u64], family: Family, order: &[u64]) {
 }
 
 // Makes the chain of each key begin somewhere on the circle.
-fn set_heads(memory: &mut [u64], family: Family, dice: &mut Dice) {
+fn set_heads(memory: &mut Memory, family: Family, dice: &mut Dice) {
     for key in 0..family.heads {
         let entry = dice.below(family.entries);
         family.pointers.set(memory, key, entry.wrapping_add(1));
@@ -95,20 +95,22 @@ fn set_heads(memory: &mut [u64], family: Family, dice: &mut Dice) {
 
 // Makes the chains of each family go round, in another random order each.
 fn close_chains(bench: &mut Bench, dice: &mut Dice) {
+    let Some(memory) = bench.memory.as_mut_slice().first_chunk_mut() else {
+        return;
+    };
     for family in [CHAINS, OUT, IN, PAIR] {
         let n = family.entries as usize;
         let Some(order) = bench.order.as_mut_slice().get_mut(..n) else {
             return;
         };
         shuffle(order, dice);
-        let memory = bench.memory.as_mut_slice();
         link_up(memory, family, order);
         set_heads(memory, family, dice);
     }
 }
 
 // As many cards as there may be, that of each slot at the place of the same number.
-fn seat_all(memory: &mut [u64]) {
+fn seat_all(memory: &mut Memory) {
     for slot in 0..CARDS {
         IDS.set(memory, slot, card_of(slot));
         seat(memory, slot, slot);
@@ -119,7 +121,9 @@ fn seat_all(memory: &mut [u64]) {
 pub(crate) fn go_round(bench: &mut Bench, ends: Ends, end: u64, dice: &mut Dice) {
     bench.memory.as_mut_slice().fill(0);
     close_chains(bench, dice);
-    let memory = bench.memory.as_mut_slice();
+    let Some(memory) = bench.memory.as_mut_slice().first_chunk_mut() else {
+        return;
+    };
     seat_all(memory);
     ends.set(memory, dice);
     for (index, number) in [(COUNT, CARDS), (FRESH, CARDS), (LIVE, LINKS), (END, end)] {
@@ -127,7 +131,7 @@ pub(crate) fn go_round(bench: &mut Bench, ends: Ends, end: u64, dice: &mut Dice)
     }
 }
 
-fn mark_all(memory: &mut [u64], column: Column) {
+fn mark_all(memory: &mut Memory, column: Column) {
     for i in 0..column.size {
         column.set(memory, i, u64::MAX);
     }
@@ -142,7 +146,9 @@ pub(crate) fn fill(bench: &mut Bench, dice: &mut Dice) {
         ENTRIES - 512
     };
     go_round(bench, ends, end, dice);
-    let memory = bench.memory.as_mut_slice();
+    let Some(memory) = bench.memory.as_mut_slice().first_chunk_mut() else {
+        return;
+    };
     if dice.below(2) == 0 {
         mark_all(memory, FORE.column);
         mark_all(memory, HIND.column);

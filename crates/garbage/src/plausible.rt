@@ -1,7 +1,7 @@
 // What may stand in the columns of a sound memory.
 use crate::dice::Dice;
 use links::{ENTRIES, FROM, IN, OUT, PAIR, TO};
-use memory::Column;
+use memory::{Column, Memory};
 use order::CARDS;
 use row::{CHAINS, IDS, PLACES, SLOTS};
 use search::{FORE, HIND};
@@ -51,21 +51,21 @@ fn columns() -> [(Column, Holds); COLUMNS] {
     ]
 }
 
-fn fill(memory: &mut [u64], column: Column, holds: Holds, dice: &mut Dice) {
+fn fill(memory: &mut Memory, column: Column, holds: Holds, dice: &mut Dice) {
     for i in 0..column.size {
         column.set(memory, i, holds.drawn(dice));
     }
 }
 
 // Fills each column with numbers that may stand there.
-pub(crate) fn fill_all(memory: &mut [u64], dice: &mut Dice) {
+pub(crate) fn fill_all(memory: &mut Memory, dice: &mut Dice) {
     for (column, holds) in columns() {
         fill(memory, column, holds, dice);
     }
 }
 
 // Puts a number somewhere into one of the columns, often near its start: one that may stand there, or any.
-pub(crate) fn dent(memory: &mut [u64], dice: &mut Dice) {
+pub(crate) fn dent(memory: &mut Memory, dice: &mut Dice) {
     let number = dice.below(COLUMNS as u64);
     let Some((column, holds)) = columns().get(number as usize).copied() else {
         return;

@@ -4,8 +4,8 @@ use crate::dice::Dice;
 use crate::events;
 use crate::plausible::card_of;
 use batch::{Event, play};
-use keeper::MEMORY;
 use command::Command;
+use keeper::MEMORY;
 use std::alloc::AllocError;
 
 fn say(bench: &mut Bench, event: Event) {
@@ -41,7 +41,10 @@ pub(crate) fn play_some(bench: &mut Bench, dice: &mut Dice) -> Result<(), AllocE
     bench.memory.as_mut_slice().fill(0);
     bring_cards(bench, dice);
     for _saying in 0..dice.below(100) {
-        let event = events::drawn(bench.memory.as_slice(), 256, &mut bench.batch, dice)?;
+        let Some(memory) = bench.memory.as_slice().first_chunk() else {
+            return Ok(());
+        };
+        let event = events::drawn(memory, 256, &mut bench.batch, dice)?;
         say(bench, event);
     }
     Ok(())

@@ -2,6 +2,7 @@
 use crate::dice::Dice;
 use keeper::{LINKS, Pending};
 use links::{END, ENTRIES, LIVE};
+use memory::Memory;
 use order::CARDS;
 use row::{COUNT, FRESH, TALLY};
 
@@ -29,7 +30,7 @@ fn pending(dice: &mut Dice) -> Pending {
     }
 }
 
-pub(crate) fn set_tallies(memory: &mut [u64], dice: &mut Dice) {
+pub(crate) fn set_tallies(memory: &mut Memory, dice: &mut Dice) {
     for (index, limit) in [
         (COUNT, CARDS),
         (FRESH, CARDS),

@@ -86,7 +86,7 @@ impl Trial {
         for _step in 0..STEPS {
             let bench = &mut self.bench;
             let event = events::drawn(
-                bench.memory.as_slice(),
+                bench.memory.as_slice().first_chunk().context("memory")?,
                 case.kind.most_links(),
                 &mut bench.batch,
                 dice,
