@@ -27,7 +27,7 @@ fn fill_small(memory: &mut [u64], dice: &mut Dice) {
     let n = match dice.below(3) {
         0 => 4,
         1 => CARDS,
-        _ => OUT.pointers.size,
+        _ => OUT.cells.size,
     };
     fill_below(memory, n, dice);
 }
@@ -64,8 +64,8 @@ pub(crate) fn build(bench: &mut Bench, kind: Kind, dice: &mut Dice) -> Result<()
         Kind::Small => fill_small(memory, dice),
         Kind::Plausible => {
             fill_below(memory, CARDS, dice);
-            if let Some(lent) = memory.first_chunk_mut() {
-                fill_all(lent, dice);
+            if let Some(memory) = memory.first_chunk_mut() {
+                fill_all(memory, dice);
             }
         }
         Kind::Dented => return fill_dented(bench, dice),
@@ -74,10 +74,11 @@ pub(crate) fn build(bench: &mut Bench, kind: Kind, dice: &mut Dice) -> Result<()
             return Ok(());
         }
     }
-    if dice.below(8) > 0
-        && let Some(lent) = memory.first_chunk_mut()
-    {
-        set_tallies(lent, dice);
+    let Some(memory) = memory.first_chunk_mut() else {
+        return Ok(());
+    };
+    if dice.below(8) > 0 {
+        set_tallies(memory, dice);
     }
     Ok(())
 }
