@@ -1,27 +1,30 @@
 -- Which slots have come, as it is noted in a column: those that stand in `spare`.
-use Rattle.std.proofs.Common.{◌≡◌, ℕ, zero, suc, ◌+◌, ◌<◌, ◌≤◌, true, not, ◌&&◌, eqb, List, map, length, refl, ap, ◌∙◌, inl, inr, arith}
+use Rattle.std.proofs.Common.{◌≡◌, ℕ, zero, suc, ◌+◌, ◌<◌, ◌≤◌, true, not, ◌&&◌, eqb, List, [], ◌∷◌, map, length, refl, ap, ◌∙◌, inl, inr, arith}
 use Rattle.order.specs.declared.board.TheConstants.{CARDS}
 use Rattle.std.specs.List.{range_with_len}
 use Rattle.std.proofs.lemmas.Bool.{cases_Bool, cases_eq, both_ways, eq-eqb, ne_eqb, lt-ltb}
 use Rattle.std.proofs.lemmas.Bool.Decides.{nat_tests}
 use Rattle.memory.specs.declared.column.Column.{Column}
 use Rattle.order.specs.Lists.{any, has}
-use Rattle.memory.specs.Columns.{cell, written, apart}
+use Rattle.memory.specs.Columns.{cell, written, wiped}
 use Rattle.row.specs.declared.layout.TheConstants.{SLOTS}
 use Rattle.memory.proofs.Cells.{length_written, cell_same, cell_other, cell_apart}
 use Rattle.order.proofs.Tabulated.{made_same}
-use Rattle.links.specs.Building.{blanked}
 use Rattle.batch.specs.declared.layout.TheConstants.{SPARE, LEAVES}
 use Rattle.batch.specs.Circling.{flagged, stays, first_left}
 use Rattle.batch.specs.MakingAnew.{new_row}
-use Rattle.batch.proofs.Beside.{Beside, Off, beside_on, beside_each, beside_written, beside_blanked}
-use Rattle.batch.proofs.Counting.{blanked_in}
-use Rattle.memory.specs.Footprints.{at_each}
+use Rattle.memory.specs.Footprints.{Writes, at_each}
+use Rattle.memory.proofs.Footprints.{same, on, put_one, each}
+use Rattle.batch.proofs.Counting.{wiped_in}
+use Rattle.batch.proofs.Writing.{wiped_writes}
 
-beside_flagged : (T : Column → Type 0) → Off T LEAVES → (f : ℕ) (m : List ℕ) (i : ℕ) → Beside T m (flagged f m i)
+abbrev pub flagging : List Column
+flagging = LEAVES ∷ []
+
+flagged_writes : (f : ℕ) (m : List ℕ) (i : ℕ) → Writes flagging m (flagged f m i)
 unfolding flagged
-beside_flagged T off f m i =
-    beside_each T (λ m₁ j. written m₁ LEAVES (cell m₁ SPARE j) 1) (λ m₁ j. beside_written T m₁ LEAVES (cell m₁ SPARE j) 1 off (λ s. omega arith)) f m i
+flagged_writes f m i =
+    each flagging (λ m₁ j. written m₁ LEAVES (cell m₁ SPARE j) 1) (λ m₁ j. put_one m₁ LEAVES (cell m₁ SPARE j) 1 (λ s. omega arith)) f m i
 
 -- after each has come, a slot has come if it had before, or is one of these
 flagged_is : (f : ℕ) (m : List ℕ) (i s : ℕ) → LEAVES.base + LEAVES.size ≤ length m → s < CARDS →
@@ -42,15 +45,15 @@ module _ (m : List ℕ) (n : ℕ) where
   abbrev pub flags : List ℕ
   flags = flagged n (wiped CARDS m LEAVES 0) 0
 
-  pub beside_flags : (T : Column → Type 0) → Off T LEAVES → Beside T m flags
-  beside_flags T off =
-      beside_on T m (wiped CARDS m LEAVES 0) flags (beside_wiped T CARDS m LEAVES 0 off) (beside_flagged T off n (wiped CARDS m LEAVES 0) 0)
+  pub flags_writes : Writes flagging m flags
+  flags_writes =
+      on flagging m (wiped CARDS m LEAVES 0) flags (wiped_writes m LEAVES CARDS m 0 (same flagging m)) (flagged_writes n (wiped CARDS m LEAVES 0) 0)
 
   pub stays_is : LEAVES.base + LEAVES.size ≤ length m → (s : ℕ) → s < CARDS → stays flags s ≡ not (has (new_row m n) s)
   unfolding stays
   stays_is l s h =
       let m₁ = wiped CARDS m LEAVES 0 in
-      let b = beside_wiped (λ (d : Column). apart LEAVES d ≡ true) CARDS m LEAVES 0 (λ d t. t) in
+      let b = wiped_writes m LEAVES CARDS m 0 (same flagging m) in
       let z = wiped_in CARDS m LEAVES 0 s l (omega arith) (omega arith) h in
       let e = made_same (cell m₁ SPARE) (cell m SPARE) 0 n (λ p x y. b.others SPARE p refl) in
       rw (lt-ltb s CARDS h, flagged_is n m₁ 0 s (omega (arith, b.as_long)) h, z) (ap (λ (ks : List ℕ). not (has ks s) && true) e ∙ (grind arith))

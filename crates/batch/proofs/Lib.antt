@@ -93,6 +93,7 @@ pub mod MakesAnew
 pub mod CardsIn
 pub mod Anys
 pub mod Denseness
+pub mod Fitted
 pub mod LinkByLink
 pub mod PackedMeans
 pub mod ReadyAgain

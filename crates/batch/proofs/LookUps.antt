@@ -1,12 +1,19 @@
--- Where a card is found depends on the columns of the look-up alone; and what is found is a slot.
-use Rattle.std.proofs.Common.{◌≡◌, ℕ, zero, suc, ◌+◌, ◌<◌, List, Some, None, Option, refl, arith}
+-- Where a card is found depends on the columns of the look-up alone; what is found is a slot; and it is found just if it is there.
+use Rattle.std.proofs.Common.{◌≡◌, ℕ, zero, suc, ◌+◌, ◌<◌, ◌&&◌, List, is_some, Some, None, Option, sym, refl, ap, ◌∙◌, ap₂, inl, inr, arith}
+use Rattle.std.proofs.lemmas.Bool.{cases_Bool}
 use Rattle.order.specs.declared.board.TheConstants.{CARDS}
+use Rattle.order.specs.declared.board.Link.{Link}
+use Rattle.order.specs.Lists.{has}
+use Rattle.order.specs.Board.{◌⟶◌}
 use Rattle.memory.specs.Columns.{cell}
 use Rattle.memory.specs.Options.{given, Within}
 use Rattle.memory.proofs.Options.{given_holds}
 use Rattle.row.specs.declared.layout.TheConstants.{HEADS, IDS, CHAIN}
 use Rattle.row.specs.Lookup.{EntryBelow, bucket, followed, sought, found}
+use Rattle.row.specs.Meaning.{cards, IsRow}
+use Rattle.row.proofs.Present.{finds}
 use Rattle.row.proofs.Seeking.{sought_low}
+use Rattle.keeper.specs.Linking.{slots_found}
 use Rattle.batch.specs.Arranging.{slot_of}
 
 given_same : {X Y : Type 0} (o : Option X) (z : Y) (f g : X → Y) → ((x : X) → f x ≡ g x) → given o z f ≡ given o z g
@@ -35,3 +42,19 @@ found_below m k =
     given_holds (Within CARDS) (λ (s : ℕ). s < CARDS) (found m k) 0 (λ s. s)
     (given_holds EntryBelow (Within CARDS) (sought CARDS m (bucket k) k) None (λ e. Some e.number) (sought_low CARDS m (bucket k) k) tt (λ e b. b))
     (omega arith) (λ s b. b)
+
+-- whether the cards of a link are found
+found_there : (m : List ℕ) → IsRow m → (k : ℕ) → is_some (found m k) ≡ has (cards m) k
+found_there m S k = elim (cases_Bool (has (cards m) k)) [
+  | inl h ↦ ap is_some ((finds m k S).2 h).1 ∙ sym h
+  | inr h ↦ ap is_some ((finds m k S).1 h) ∙ sym h
+]
+
+both_some : (o p : Option ℕ) → is_some (given o None (λ a. given p None (λ b. Some (a ⟶ b)))) ≡ (is_some o && is_some p)
+both_some None p = refl
+both_some (Some a) None = refl
+both_some (Some a) (Some b) = refl
+
+pub slots_there : (m : List ℕ) → IsRow m → (l : Link) → is_some (slots_found m l) ≡ (has (cards m) l.from && has (cards m) l.to)
+unfolding slots_found
+slots_there m S l = both_some (found m l.from) (found m l.to) ∙ ap₂ ◌&&◌ (found_there m S l.from) (found_there m S l.to)

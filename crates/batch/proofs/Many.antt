@@ -3,7 +3,7 @@ use Rattle.std.proofs.Common.{◌≡◌, ℕ, suc, ◌+◌, ◌<◌, ◌≤◌, 
 use mathlib.Core.List.{reverse-cons}
 use Rattle.std.proofs.lemmas.Bool.{cases_Bool, and_parts}
 use Rattle.std.proofs.lemmas.Bool.Decides.{nat_tests}
-use Rattle.order.specs.Lists.{any, every, filter}
+use Rattle.order.specs.Lists.{any, every, filter, has}
 use Rattle.order.proofs.Filters.{filter_append, every_append}
 
 abbrev pub many : {A : Type 0} → (A → Bool) → List A → ℕ
@@ -82,3 +82,6 @@ pub every_map : {A B : Type 0} (f : B → Bool) (g : A → B) (xs : List A) → 
 unfolding every
 every_map f g [] = refl
 every_map f g (x ∷ xs) = ap (λ (b : Bool). f (g x) && b) (every_map f g xs)
+
+pub has_reverse : (xs : List ℕ) (k : ℕ) → has (reverse xs) k ≡ has xs k
+has_reverse xs k = many_any (eqb k) (reverse xs) ∙ ap (λ (n : ℕ). not (eqb n 0)) (many_reverse (eqb k) xs) ∙ sym (many_any (eqb k) xs)

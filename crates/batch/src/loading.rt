@@ -3,14 +3,15 @@ ghost use Rattle.std.specs.Prelude.{◌≡◌, length, replicate};
 ghost use Rattle.batch.specs.Loading.{LoadedSo, cards_come, put_one, put_all, links_come, loaded};
 
 use crate::checking::all_there;
-use keeper::{LINKS, slots_of};
+use keeper::slots_of;
 use links::insert;
-use order::{Link, Refusal};
+use memory::Memory;
+use order::{LINKS, Link, Refusal};
 use row::comes;
 
 // The cards come, one after the other, up to the first that is refused.
 #[tactic(auto, using(crate::proofs::LoadSteps::cards))]
-fn bring_cards(memory: &mut [u64], row: &[u64]) -> Result<(), Refusal>
+fn bring_cards(memory: &mut Memory, row: &[u64]) -> Result<(), Refusal>
     ensures { LoadedSo (cards_come memory.old row.now) result memory.new }
 {
     for card in row {
@@ -21,7 +22,7 @@ fn bring_cards(memory: &mut [u64], row: &[u64]) -> Result<(), Refusal>
 
 // Puts a link between cards into the table, if both are there.
 #[tactic(auto, unfolding(crate::specs::Loading::put_one))]
-fn put_one(memory: &mut [u64], link: Link)
+fn put_one(memory: &mut Memory, link: Link)
     ensures { memory.new ≡ put_one memory.old link }
 {
     if let Some(slots) = slots_of(memory, link) {
@@ -31,7 +32,7 @@ fn put_one(memory: &mut [u64], link: Link)
 
 // Puts each of the links whose cards are there into the table.
 #[tactic(auto, unfolding(crate::specs::Loading::put_all))]
-fn put_all(memory: &mut [u64], links: &[Link])
+fn put_all(memory: &mut Memory, links: &[Link])
     ensures { memory.new ≡ put_all memory.old links.now }
 {
     for link in links {
@@ -41,7 +42,7 @@ fn put_all(memory: &mut [u64], links: &[Link])
 
 // Puts the links in; refused if a card isn't there, or if there are too many.
 #[tactic(auto, unfolding(crate::specs::Loading::links_come))]
-fn bring_links(memory: &mut [u64], links: &[Link]) -> Result<(), Refusal>
+fn bring_links(memory: &mut Memory, links: &[Link]) -> Result<(), Refusal>
     ensures { LoadedSo (links_come memory.old links.now) result memory.new }
 {
     if !all_there(memory, links) {
@@ -56,7 +57,7 @@ fn bring_links(memory: &mut [u64], links: &[Link]) -> Result<(), Refusal>
 
 // Fills the memory with the cards and the links, whatever stood there.
 #[tactic(auto, unfolding(crate::specs::Loading::loaded))]
-pub(crate) fn load(memory: &mut [u64], row: &[u64], links: &[Link]) -> Result<(), Refusal>
+pub(crate) fn load(memory: &mut Memory, row: &[u64], links: &[Link]) -> Result<(), Refusal>
     ensures { LoadedSo (loaded (replicate (length memory.old) 0) row.now links.now) result memory.new }
 {
     memory.fill(0);

@@ -1,15 +1,17 @@
 // A row made anew by the rule, from any cards and links; or a circle of links, if they go round.
-ghost use Rattle.std.specs.Prelude.{◌≡◌, ◌≤◌, length, Ok};
+ghost use Rattle.std.specs.Prelude.{◌≡◌, ◌≤◌, length, replicate, Ok};
 ghost use Rattle.search.specs.Way.{over};
 ghost use Rattle.batch.specs.AnewLaws.{MakesAnew};
 ghost use Rattle.batch.specs.Renewing.{renewed};
-ghost use Rattle.batch.specs.MakingAnew.{MadeSo, new_row, ended, made_anew};
+ghost use Rattle.batch.specs.Loading.{loaded};
+ghost use Rattle.batch.specs.MakingAnew.{MadeSo, new_row, ended, made, made_anew};
 
 use crate::circling::show_circle;
 use crate::layout::SPARE;
 use crate::loading::load;
 use crate::renewing::renew;
-use keeper::{MEMORY, OUTPUT, Reason};
+use keeper::{OUTPUT, Reason};
+use memory::Memory;
 use order::Link;
 use row::IDS;
 
@@ -21,9 +23,9 @@ pub enum Anew {
     Circle(u64),
 }
 
-// Writes the cards of the first n slots in SPARE to the front of `out`. (`row::tell` tells from the row's own column, and refuses where the memory is short.)
+// Writes the cards of the first n slots in SPARE to the front of `out`. (`row::tell` tells from the row's own columns, and refuses where it doesn't fit.)
 // Tried as `(0..n).zip(out)`: a proof then knows nothing of what was written.
-fn show_row(memory: &[u64], n: u64, out: &mut [u64])
+fn show_row(memory: &Memory, n: u64, out: &mut [u64])
     requires { n ≤ length out.old }
     ensures { out.new ≡ over memory.now (new_row memory.now n) n out.old }
 {
@@ -35,8 +37,8 @@ fn show_row(memory: &[u64], n: u64, out: &mut [u64])
 
 // Makes the row of a memory anew, and shows it, or a circle. The output's length is asked for, and no type: a circle may be as long as the whole output.
 #[tactic(auto, unfolding(crate::specs::MakingAnew::ended))]
-fn finish(memory: &mut [u64], out: &mut [u64]) -> Anew
-    requires { 8192 ≤ length out.old }
+fn finish(memory: &mut Memory, out: &mut [u64]) -> Anew
+    requires { OUTPUT ≤ length out.old }
     ensures { MadeSo (ended (renewed memory.old).memory (renewed memory.old).came out.old) (Ok result) memory.new out.new }
 {
     let n = renew(memory);
@@ -47,9 +49,24 @@ fn finish(memory: &mut [u64], out: &mut [u64]) -> Anew
     Anew::Row(n)
 }
 
+// Makes the row of these cards and links anew, in lent memory.
+#[tactic(auto, unfolding(crate::specs::MakingAnew::made))]
+fn make(
+    memory: &mut Memory,
+    row: &[u64],
+    links: &[Link],
+    out: &mut [u64],
+) -> Result<Anew, Reason>
+    requires { OUTPUT ≤ length out.old }
+    ensures { MadeSo (made (loaded (replicate (length memory.old) 0) row.now links.now) out.old) result memory.new out.new }
+{
+    load(memory, row, links)?;
+    Ok(finish(memory, out))
+}
+
 // Makes the row anew by the rule, with these links: the row by the rule is written to the front of `out`, or a circle, if the links go round. Whatever
 // stood in the memory is gone then.
-#[tactic(auto, using(crate::proofs::MakesAnew::makes_anew), unfolding(crate::specs::MakingAnew::made_anew, crate::specs::MakingAnew::made))]
+#[tactic(auto, using(crate::proofs::MakesAnew::makes_anew, crate::proofs::MakingSteps::makings), unfolding(crate::specs::MakingAnew::made_anew))]
 pub fn make_anew(
     memory: &mut [u64],
     row: &[u64],
@@ -59,9 +76,11 @@ pub fn make_anew(
     ensures made { MadeSo (made_anew memory.old row.now links.now out.old) result memory.new out.new }
     ensures right { MakesAnew }
 {
-    if memory.len() != MEMORY || out.len() < OUTPUT {
+    let Some(memory) = memory.as_mut_array() else {
+        return Err(Reason::Unfit);
+    };
+    if out.len() < OUTPUT {
         return Err(Reason::Unfit);
     }
-    load(memory, row, links)?;
-    Ok(finish(memory, out))
+    make(memory, row, links, out)
 }
