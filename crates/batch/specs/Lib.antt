@@ -2,7 +2,6 @@ pub mod Several
 pub mod SeveralLaws
 pub mod Rule
 pub mod RuleLaws
-pub mod Layout
 pub mod Listing
 pub mod Joining
 pub mod JoinLaws
