@@ -91,7 +91,6 @@ pub mod MakesAnew
 pub mod CardsIn
 pub mod Anys
 pub mod Denseness
-pub mod Fitted
 pub mod LinkByLink
 pub mod PackedMeans
 pub mod ReadyAgain
