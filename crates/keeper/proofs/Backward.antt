@@ -10,7 +10,6 @@ use Rattle.order.specs.Reordering.{link_refusal, goes_round}
 use Rattle.command.specs.declared.command.Command.TheVariants.{Link as Links}
 use Rattle.command.specs.Commands.{refusal}
 use Rattle.memory.specs.Columns.{cell}
-use Rattle.memory.specs.Footprints.{Writes}
 use Rattle.memory.specs.PlaceSetLaws.{Summed}
 use Rattle.memory.proofs.Footprints.{same as as_it_was, after}
 use Rattle.row.specs.declared.layout.TheConstants.{IDS}

@@ -1,5 +1,5 @@
 -- What settling writes, whatever stands in the memory.
-use Rattle.std.proofs.Common.{◌≡◌, ℕ, zero, suc, ◌+◌, ◌-◌, ◌*◌, ◌/◌, ◌%◌, ◌^◌, ◌<◌, ◌≤◌, eqb, ltb, List, [], ◌∷◌, Some, None, Option, refl, arith}
+use Rattle.std.proofs.Common.{ℕ, zero, suc, ◌+◌, ◌-◌, ◌*◌, ◌/◌, ◌%◌, ◌^◌, ◌<◌, ◌≤◌, eqb, ltb, List, [], ◌∷◌, Some, None, Option, refl, arith}
 use lib.Count.{count_trailing_zeros}
 use Rattle.std.proofs.lemmas.Nat.{trailing_le}
 use Rattle.std.proofs.lemmas.Bool.{ltb-true, cond_both}
@@ -116,5 +116,5 @@ settled_writes m =
     let k = reseated m in
     let a = less fs (CHOSEN ∷ []) m n refl (chose_writes m) in
     let b = after fs (SLOTS ∷ SEATS ∷ []) m n k refl
-        (dealt_writes CARDS n (both_first n) 0 (within_sooner 131072 _ _ (first_within n HIND.column) (first_within n FORE.column))) a in
+    (dealt_writes CARDS n (both_first n) 0 (within_sooner 131072 _ _ (first_within n HIND.column) (first_within n FORE.column))) a in
     after fs sets m k (settled m) refl (writes_forgotten k) b

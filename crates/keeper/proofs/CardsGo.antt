@@ -1,12 +1,11 @@
 -- A card goes: the memory means the board without it and its links.
-use Rattle.std.proofs.Common.{◌≡◌, ℕ, true, false, not, ◌||◌, eqb, List, ◌++◌, map, Ok, sym, refl, ap, ◌∙◌, subst, inl, inr}
+use Rattle.std.proofs.Common.{◌≡◌, ℕ, true, false, not, ◌||◌, eqb, List, ◌++◌, Ok, sym, refl, ap, ◌∙◌, inl, inr}
 use Rattle.std.proofs.lemmas.Bool.{cases_Bool}
 use Rattle.order.specs.declared.board.Link.{Link}
 use Rattle.order.specs.declared.board.Refusal.TheVariants.{Missing}
 use Rattle.order.specs.Lists.{has, filter}
 use Rattle.order.specs.Board.{Board, fine}
 use Rattle.order.specs.Renaming.{renamed}
-use Rattle.order.specs.Outcomes.{Outcome}
 use Rattle.order.proofs.Filters.{same_itself}
 use Rattle.command.specs.declared.command.Command.TheVariants.{Goes}
 use Rattle.command.specs.Commands.{refusal, may_be, row_before, links_after}
@@ -23,7 +22,7 @@ use Rattle.row.specs.Laws.{Gone}
 use Rattle.row.proofs.Named.{has_slot}
 use Rattle.row.proofs.Going.{goes_filters}
 use Rattle.row.proofs.Framing.{gone_writes}
-use Rattle.links.specs.Table.{columns as link_columns, edges, IsTable, once}
+use Rattle.links.specs.Table.{columns as link_columns, edges, IsTable}
 use Rattle.links.specs.Entries.{removed_all}
 use Rattle.links.proofs.Keeping.{table_kept, edges_kept}
 use Rattle.links.proofs.Operating.{removes_all_table, removes_all_edges}
@@ -32,7 +31,6 @@ use Rattle.links.specs.Laws.{StaysOnce}
 use Rattle.links.proofs.Writing.{removed_all_writes}
 use Rattle.search.specs.Meaning.{slot_board, Ready}
 use Rattle.keeper.specs.Promise.{small_command}
-use Rattle.keeper.specs.Answers.{quiet}
 use Rattle.keeper.specs.Own.{said, own}
 use Rattle.keeper.specs.Meaning.{card_board, Means}
 use Rattle.keeper.proofs.Unmoved.{goes_keeps}

@@ -6,14 +6,14 @@ use Rattle.order.specs.Board.{Board, fine}
 use Rattle.order.specs.Renaming.{renamed}
 use Rattle.memory.specs.declared.column.Column.{Column}
 use Rattle.memory.specs.Columns.{cell, written}
-use Rattle.memory.specs.Footprints.{clear, clear_all, Writes, View, view}
+use Rattle.memory.specs.Footprints.{clear, clear_all, Writes, View}
 use Rattle.memory.proofs.Cells.{cell_same}
 use Rattle.memory.proofs.Footprints.{same, view_same, put}
 use Rattle.memory.proofs.Alone.{cells_alone}
 use Rattle.memory.specs.PlaceSetLaws.{CellsAlone}
 use Rattle.row.specs.declared.layout.TheConstants.{IDS}
 use Rattle.row.specs.Columns.{columns as row_columns}
-use Rattle.row.specs.Meaning.{row_of, IsRow}
+use Rattle.row.specs.Meaning.{IsRow}
 use Rattle.row.specs.Theory.{SameRow}
 use Rattle.row.proofs.Depending.{depends}
 use Rattle.links.specs.Table.{columns as link_columns, edges, IsTable, once}

@@ -63,10 +63,6 @@ pub written_says : (m : List ℕ) (ev : Event) (out : List ℕ) (r : Result Act 
     StepSays m ev out r m₁ out₁
 written_says m ev out r m₁ out₁ = says (step_fits m out) m ev out r m₁ out₁ refl
 
-pub answer_busy : (m : List ℕ) (c : Command) → (pending m ≡ 0 → ⊥) → answer m (Said c) ≡ quiet (ends (Err Busy) m)
-unfolding answer
-answer_busy m c n = rw (ne_eqb (pending m) 0 n)
-
 pub answer_said : (m : List ℕ) (c : Command) → pending m ≡ 0 → answer m (Said c) ≡ said m c
 unfolding answer
 answer_said m c e = rw (eq-eqb (pending m) 0 e)

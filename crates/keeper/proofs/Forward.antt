@@ -4,7 +4,7 @@ use Rattle.std.proofs.lemmas.Bool.{cases_Bool, cases_eq, cases_lt, both_ways, eq
 use Rattle.order.specs.declared.board.TheConstants.{LINKS}
 use Rattle.order.specs.declared.board.Link.{Link}
 use Rattle.order.specs.declared.board.Refusal.TheVariants.{Missing, Exists, Cycle, Full}
-use Rattle.order.specs.Lists.{any, has, place, distinct}
+use Rattle.order.specs.Lists.{any, has, distinct}
 use Rattle.order.specs.Board.{Board, ◌⟶◌, linked, leads, fine}
 use Rattle.order.specs.Reordering.{link_refusal, link_may_be, with_link, backward, goes_round, follows, last_of}
 use Rattle.order.specs.Renaming.{renamed}

@@ -1,5 +1,5 @@
 -- A link that goes backward and can be kept: the row is settled for it, and the memory means the board with the link.
-use Rattle.std.proofs.Common.{◌≡◌, ℕ, ◌<◌, ◌≤◌, true, false, ◌&&◌, List, [], ◌∷◌, ◌++◌, map, length, None, refl, sym, ap, ap₂, ◌∙◌, subst, arith}
+use Rattle.std.proofs.Common.{◌≡◌, ℕ, ◌<◌, ◌≤◌, true, false, List, [], ◌∷◌, ◌++◌, map, length, None, refl, sym, ap, ap₂, ◌∙◌, subst, arith}
 use lib.ListN.{length-map}
 use Rattle.std.proofs.lemmas.Bool.{lt-ltb, ltb-true, le-leb, lt-leb}
 use Rattle.order.specs.declared.board.TheConstants.{CARDS, LINKS}
@@ -44,7 +44,7 @@ use Rattle.keeper.specs.Meaning.{card_board, Means}
 use Rattle.keeper.proofs.Simulation.{StepKept}
 use Rattle.keeper.proofs.Opened.{open_stays}
 use Rattle.keeper.proofs.Knowing.{names}
-use Rattle.keeper.proofs.Carrying.{unmarked_kept, same_row, same_ids, board_of, means_by, Noted, settles}
+use Rattle.keeper.proofs.Carrying.{unmarked_kept, same_row, board_of, means_by, Noted, settles}
 use Rattle.keeper.proofs.Saying.{refuses_kept, full_is_not}
 use Rattle.keeper.proofs.Forward.{both, linked_here, links_counted}
 use Rattle.keeper.proofs.Backward.{forgotten_means}

@@ -10,7 +10,6 @@ use Rattle.order.specs.Lists.{every}
 use Rattle.command.specs.declared.command.Command.{Command}
 use Rattle.command.specs.declared.command.Command.TheVariants.{Comes, Goes, Link as Links, Unlink as Unlinks, Places}
 use Rattle.memory.specs.Columns.{cell}
-use Rattle.memory.specs.Options.{given}
 use Rattle.memory.proofs.Cells.{small_cell}
 use Rattle.memory.proofs.Footprints.{same}
 use Rattle.memory.proofs.Options.{given_holds}
@@ -23,7 +22,7 @@ use Rattle.row.specs.Moves.{came, gone, place_found}
 use Rattle.row.proofs.Listing.{amount_le}
 use Rattle.row.proofs.Framing.{came_writes, gone_writes}
 use Rattle.links.specs.Table.{columns as link_columns}
-use Rattle.links.specs.Entries.{live, found as entry_found, inserted, removed, removed_all}
+use Rattle.links.specs.Entries.{live, found as entry_found, inserted, removed}
 use Rattle.links.proofs.Writing.{inserted_writes, removed_writes, removed_all_writes}
 use Rattle.search.specs.declared.layout.TheConstants.{VIA}
 use Rattle.search.specs.Hunt.{meeting}
@@ -43,9 +42,8 @@ use Rattle.keeper.specs.Telling.{cards_from, middle, left_to_tell, end_at, told_
 use Rattle.keeper.specs.Reordering.{round_cards, shown_round, moved, reordered}
 use Rattle.keeper.specs.Linking.{slots_found, unlinked, put_in, linked}
 use Rattle.keeper.specs.Own.{left, shown_places, said, finished, went_on, answer, steps, own}
-use Rattle.keeper.proofs.Size.{small_each, each_small, small_take, small_map, size_same, size_then, size_writes, cond_holds, guarded_fits, fits_tells, fits_shows}
+use Rattle.keeper.proofs.Size.{small_each, small_take, small_map, size_same, size_then, size_writes, cond_holds, guarded_fits, fits_tells, fits_shows}
 use Rattle.keeper.proofs.Carrying.{noted, noted_more}
-use Rattle.keeper.proofs.TellingParts.{length_middle}
 use Rattle.keeper.proofs.Zeros.{steady_zeros}
 use Rattle.search.proofs.Touching.{writes_meeting}
 use Rattle.keeper.proofs.Bounds.{settled_writes}

@@ -1,5 +1,5 @@
 -- Memory keeps its length, and its numbers stay below 2^64, through what is written; and answers fit what carries them.
-use Rattle.std.proofs.Common.{◌≡◌, ℕ, zero, suc, ◌^◌, ◌<◌, ◌≤◌, Bool, true, cond, List, [], ◌∷◌, map, length, get_or, take, refl, ◌∙◌, inl, inr, arith}
+use Rattle.std.proofs.Common.{◌≡◌, ℕ, zero, suc, ◌^◌, ◌<◌, ◌≤◌, Bool, true, cond, List, [], ◌∷◌, map, length, take, refl, ◌∙◌, inl, inr, arith}
 use Rattle.std.proofs.lemmas.Bool.{cases_Bool, cond_both, and_parts, and_from, lt-ltb, ltb-true, le-leb}
 use Rattle.order.specs.declared.board.TheConstants.{CARDS}
 use Rattle.order.specs.Lists.{every}

@@ -1,13 +1,12 @@
 -- What is told of the row, where the output is long enough.
-use Rattle.std.proofs.Common.{◌≡◌, ℕ, zero, suc, ◌+◌, ◌≤◌, min, true, List, [], ◌∷◌, ◌++◌, length, take, drop, set, sym, refl, ap, ap₂, ◌∙◌, arith}
+use Rattle.std.proofs.Common.{◌≡◌, ℕ, zero, suc, ◌+◌, ◌≤◌, true, List, [], ◌∷◌, ◌++◌, length, take, drop, set, sym, refl, ap, ap₂, ◌∙◌, arith}
 use lib.ListN.{length-replicate, replicate}
 use Rattle.std.proofs.lemmas.Bool.Decides.{nat_tests}
-use Rattle.std.proofs.lemmas.List.{append_assoc, append-nil, take-append-drop, take_at, take_more_set, drop-set-lt, length-set, length-take-le, length-drop}
-use Rattle.order.specs.declared.board.TheConstants.{CARDS}
+use Rattle.std.proofs.lemmas.List.{append_assoc, take-append-drop, take_at, take_more_set, drop-set-lt, length-set, length-take-le, length-drop}
 use Rattle.memory.specs.Columns.{cell}
 use Rattle.row.specs.declared.layout.TheConstants.{IDS, SLOTS}
 use Rattle.row.specs.Meaning.{count, cards, IsRow}
-use Rattle.row.specs.Telling.{next_seat, selected, tells, tellable, told, told_count}
+use Rattle.row.specs.Telling.{next_seat, selected, tells, tellable, told}
 use Rattle.row.proofs.Present.{length_cards, few_cards}
 use Rattle.row.proofs.Tellings.{tells_middle}
 use Rattle.keeper.specs.Telling.{cards_from, middle}

@@ -1,5 +1,5 @@
 -- A link that goes backward and can be kept: what is told makes the row new, in one part or in two.
-use Rattle.std.proofs.Common.{◌≡◌, ℕ, suc, ◌+◌, ◌-◌, ◌^◌, ◌<◌, ◌≤◌, min, true, false, List, [], Some, None, Option, sym, refl, ap, ap₂, ◌∙◌, subst, inl, inr, arith}
+use Rattle.std.proofs.Common.{◌≡◌, ℕ, suc, ◌+◌, ◌-◌, ◌^◌, ◌<◌, min, true, false, List, [], Some, None, Option, sym, refl, ap, ap₂, ◌∙◌, subst, inl, inr, arith}
 use Rattle.std.proofs.lemmas.Bool.{cases_lt, ne_eqb, lt-ltb, lt-leb}
 use Rattle.order.specs.declared.board.TheConstants.{LINKS}
 use Rattle.order.specs.declared.board.Link.{Link}

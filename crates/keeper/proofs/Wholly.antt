@@ -1,7 +1,6 @@
 -- THE THEOREM: the keeper's engine meets the promise, and its firmer sister within three steps.
-use Rattle.std.proofs.Common.{◌≡◌, ℕ, ◌+◌, ◌≤◌, true, List, [], ◌∷◌, map, length, replicate, sym, refl, ap, ap₂, subst, arith}
+use Rattle.std.proofs.Common.{◌≡◌, ℕ, ◌+◌, ◌≤◌, true, List, [], ◌∷◌, map, length, replicate, sym, refl, ap, subst, arith}
 use lib.ListN.{length-replicate}
-use Rattle.order.specs.declared.board.Link.{Link}
 use Rattle.order.specs.Lists.{every, distinct}
 use Rattle.order.specs.Board.{Board, fine}
 use Rattle.order.specs.Renaming.{renamed}
@@ -10,7 +9,7 @@ use Rattle.command.specs.declared.command.Command.TheVariants.{Comes, Goes, Link
 use Rattle.memory.specs.declared.column.TheConstants.{MEMORY}
 use Rattle.memory.specs.Columns.{cell}
 use Rattle.row.specs.declared.layout.TheConstants.{IDS}
-use Rattle.row.specs.Meaning.{row_of, cards, IsRow}
+use Rattle.row.specs.Meaning.{row_of, IsRow}
 use Rattle.row.proofs.Beginning.{begins, cell_zeros}
 use Rattle.links.specs.Table.{edges, once, IsTable}
 use Rattle.links.specs.Laws.{Begins}

@@ -28,9 +28,4 @@ written_few PassedOver (Ok (Shows n)) ks = omega arith
 written_few PassedOver (Ok Done) ks = omega arith
 written_few PassedOver (Err e) ks = omega arith
 
--- an answer without numbers
-pub gives_ends : (w : Telling) (a : Result Act Reason) (m out : List ℕ) → Gives (as_told w (quiet (ends a m))) out a m out
-unfolding as_told
-gives_ends w a m out = rw (written_none w a) (record { act = refl; after = refl; out = refl })
-
 pub ruleset writing = (written_none, written_shows)

@@ -20,9 +20,6 @@ pub steady_from : (n : ℕ) (f : List ℕ → Event → Step) → n ≤ MEMORY �
 unfolding Steady
 steady_from n f l k = (omega (arith, length-replicate {A = ℕ} n 0), every_replicate (λ m. eqb m 0) n 0 refl, guarded_keeps f k)
 
-pub zeros_long : length {A = ℕ} (replicate MEMORY 0) ≡ MEMORY
-zeros_long = length-replicate {A = ℕ} MEMORY 0
-
 pub steady_zeros : (f : List ℕ → Event → Step) → ((m : List ℕ) (ev : Event) → small_event ev ≡ true → KeepsSize m (f m ev).memory) →
     Steady (record { start = replicate MEMORY 0; step = guarded f })
 steady_zeros f k = steady_from MEMORY f (omega arith) k

@@ -4,7 +4,6 @@ ghost use Rattle.keeper.specs.declared.event.Reason.TheVariants.{Board};
 ghost use Rattle.keeper.specs.Engine.{reason_number};
 
 use command::Command;
-
 use order::Refusal;
 
 // A command is said, or the keeper is to go on with the last one.

@@ -1,9 +1,8 @@
 // As many cards and links as there may be.
 use crate::cases::{done, link, refused, round, unlink};
 use crate::player::Player;
-use keeper::LINKS;
 use command::Command;
-use order::{Link, Refusal};
+use order::{LINKS, Link, Refusal};
 use std::process::Abort;
 use std::test::Fail;
 

@@ -1,8 +1,8 @@
 // What the keeper refuses.
 use crate::cases::{Case, done, link, refused, round, unlink};
 use crate::player::Player;
-use keeper::{Act, Event, MEMORY, OUTPUT, Reason, step};
 use command::Command;
+use keeper::{Act, Event, MEMORY, OUTPUT, Reason, step};
 use order::Refusal;
 use std::process::Abort;
 use std::test::Fail;

@@ -1,8 +1,7 @@
 // A player says commands to a keeper, and keeps the row by what it is told.
 use crate::cases::{Case, done};
-use keeper::{Act, Event, MEMORY, OUTPUT, Reason, step};
 use command::Command;
-use row::{len, tell};
+use keeper::{Act, Event, MEMORY, OUTPUT, Reason, read_row, step};
 use std::process::Abort;
 use std::test::Fail;
 
@@ -80,9 +79,8 @@ impl Player {
 
     // Whether the row as it was told is the row as it stands.
     pub(crate) fn is_told_right(&mut self) -> bool {
-        let n = len(self.memory.as_slice());
-        let told = tell(self.memory.as_slice(), 0, n, self.standing.as_mut_slice());
-        told == n && self.standing.get(..n as usize) == Some(self.row.as_slice())
+        let n = read_row(self.memory.as_slice(), self.standing.as_mut_slice());
+        self.standing.get(..n as usize) == Some(self.row.as_slice())
     }
 
     // Says a command, and goes on up to its end.
