@@ -6,7 +6,6 @@ use Rattle.std.proofs.lemmas.Bool.{lt-ltb, le-ltb}
 use Rattle.order.specs.declared.board.Link.{Link}
 use Rattle.order.specs.Lists.{any, filter, has, distinct}
 use Rattle.memory.specs.Columns.{cell}
-use Rattle.row.specs.declared.layout.TheConstants.{SLOTS}
 use Rattle.row.specs.Meaning.{count}
 use Rattle.memory.specs.Options.{given}
 use Rattle.row.specs.Meaning.{row_of}

@@ -1,13 +1,11 @@
 -- What putting the row into the order of the cards' numbers writes, whatever the memory.
-use Rattle.std.proofs.Common.{◌≡◌, ℕ, ◌+◌, ◌^◌, ◌<◌, ◌≤◌, min, List, [], ◌∷◌, Some, None, Option, sym, refl, subst, arith}
+use Rattle.std.proofs.Common.{◌≡◌, ℕ, ◌^◌, ◌<◌, ◌≤◌, min, List, [], ◌∷◌, sym, refl, subst, arith}
 use Rattle.order.specs.declared.board.TheConstants.{CARDS}
 use Rattle.memory.specs.Columns.{cell}
 use Rattle.memory.specs.Footprints.{Small, Writes}
-use Rattle.memory.specs.Options.{given}
 use Rattle.memory.proofs.Cells.{small_cell}
 use Rattle.memory.proofs.Footprints.{on, less, after}
 use Rattle.row.specs.declared.layout.TheConstants.{IDS, SLOTS}
-use Rattle.row.specs.Lookup.{found}
 use Rattle.row.specs.Meaning.{count}
 use Rattle.row.specs.Moves.{packed}
 use Rattle.row.proofs.Framing.{packed_writes}

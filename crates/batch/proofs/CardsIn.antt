@@ -1,5 +1,5 @@
 -- Cards come into a memory from nothing: it holds them in their order, or one of them is refused.
-use Rattle.std.proofs.Common.{◌≡◌, ℕ, ◌+◌, ◌<◌, ◌≤◌, Bool, true, false, cond, ◌&&◌, eqb, ltb, List, [], ◌∷◌, ◌++◌, map, reverse, length, replicate, Ok, Some, None, sym, refl, ap, ap₂, ◌∙◌, subst, inl, inr, append_assoc, arith}
+use Rattle.std.proofs.Common.{◌≡◌, ℕ, ◌+◌, ◌<◌, true, false, cond, ◌&&◌, eqb, ltb, List, [], ◌∷◌, ◌++◌, map, reverse, length, replicate, Some, None, sym, refl, ap, ap₂, ◌∙◌, subst, inl, inr, append_assoc, arith}
 use lib.ListN.{length-replicate}
 use Rattle.std.specs.List.{AllByRecursion}
 use Rattle.std.proofs.lemmas.List.{append-nil}
@@ -10,9 +10,8 @@ use Rattle.order.specs.declared.board.Refusal.TheVariants.{Exists, Full}
 use Rattle.order.specs.Lists.{has}
 use Rattle.memory.specs.declared.column.TheConstants.{MEMORY}
 use Rattle.memory.specs.declared.column.Column.{Column}
-use Rattle.memory.specs.Columns.{cell, written, apart}
-use Rattle.memory.specs.Footprints.{among, clear, Writes, View, view}
-use Rattle.memory.specs.Options.{given}
+use Rattle.memory.specs.Columns.{cell, apart}
+use Rattle.memory.specs.Footprints.{among, clear, Writes, view}
 use Rattle.memory.specs.PlaceSets.{marked}
 use Rattle.memory.specs.PlaceSetLaws.{Summed}
 use Rattle.memory.proofs.Cells.{length_written, cell_apart}
@@ -25,7 +24,6 @@ use Rattle.row.specs.Lookup.{found, entered}
 use Rattle.row.specs.Meaning.{cards, count, IsRow}
 use Rattle.order.specs.Outcomes.{Outcome, refused}
 use Rattle.row.specs.Moves.{slot_for, slot_taken, joined, roomy, arrived, came}
-use Rattle.row.specs.Laws.{Came}
 use Rattle.row.proofs.Beginning.{begins}
 use Rattle.row.proofs.Coming.{comes_appends}
 use Rattle.row.proofs.Framing.{roomy_writes, slot_taken_writes, joined_writes}
@@ -34,7 +32,6 @@ use Rattle.links.specs.declared.layout.TheConstants.{ENTRIES, LIVE, USED, OUT, I
 use Rattle.links.specs.Laws.{Begins as LinksBegin}
 use Rattle.links.specs.Pairs.{unpair}
 use Rattle.chains.specs.declared.cells.Pointer.{Pointer}
-use Rattle.order.specs.declared.board.Link.{Link}
 use Rattle.links.specs.Table.{columns as link_columns, edges, IsTable, TableIn}
 use Rattle.links.proofs.Beginning.{begins as links_begin}
 use Rattle.search.specs.declared.layout.TheConstants.{FORE}

@@ -1,13 +1,13 @@
 -- What is shown if not all cards come is a circle of links.
-use Rattle.std.proofs.Common.{◌≡◌, ℕ, ◌+◌, ◌/◌, ◌%◌, ◌<◌, ◌≤◌, min, Bool, true, false, not, ◌&&◌, ◌||◌, eqb, ltb, List, [], ◌∷◌, map, reverse, length, sym, refl, ap, ◌∙◌, subst, inl, inr, arith}
-use Rattle.std.specs.List.{fold, range_with_len}
+use Rattle.std.proofs.Common.{◌≡◌, ℕ, ◌+◌, ◌/◌, ◌%◌, ◌<◌, ◌≤◌, min, Bool, true, false, not, ◌&&◌, eqb, List, [], ◌∷◌, map, reverse, length, sym, refl, ap, ◌∙◌, subst, inl, inr, arith}
+use Rattle.std.specs.List.{fold}
 use Rattle.std.proofs.lemmas.List.FromFn.{length-map-range_with_len}
 use Rattle.std.proofs.lemmas.Bool.{both_ways, and_parts, and_from, or_cases, or_left, or_right, eqb-true, eq-eqb}
 use Rattle.order.specs.declared.board.TheConstants.{CARDS}
 use Rattle.order.specs.declared.board.Link.{Link}
-use Rattle.order.specs.Lists.{every, any, has, distinct}
+use Rattle.order.specs.Lists.{every, any, has}
 use Rattle.order.specs.Board.{linked}
-use Rattle.order.proofs.Filters.{every_has, every_at, every_more}
+use Rattle.order.proofs.Filters.{every_at, every_more}
 use Rattle.order.proofs.Tabulated.{made_has}
 use Rattle.memory.specs.declared.column.Column.{Column}
 use Rattle.memory.specs.Columns.{cell}
@@ -28,13 +28,13 @@ use Rattle.batch.specs.Dense.{Dense}
 use Rattle.batch.specs.Several.{circle}
 use Rattle.batch.specs.Rule.{anew}
 use Rattle.batch.specs.RuleLaws.{within_row}
-use Rattle.batch.specs.Circling.{stays, noted, notes, traced, start, back, on_circle, round}
+use Rattle.batch.specs.Circling.{stays, noted, traced, start, back, on_circle, round}
 use Rattle.batch.specs.MakingAnew.{new_row}
 use Rattle.batch.proofs.RuleLeft.{left_waits, one_not}
 use Rattle.batch.proofs.Many.{has_reverse}
 use Rattle.batch.proofs.Counting.{pair_parts}
 use Rattle.batch.proofs.Denseness.{few, row_is, length_row, slot_used, used_below, has_slot, row_in, row_once}
-use Rattle.batch.proofs.LinkByLink.{labels, along_fold}
+use Rattle.batch.proofs.LinkByLink.{along_fold}
 use Rattle.batch.proofs.Flagging.{flags, flagging, flags_writes, stays_is, first_left_is}
 use Rattle.batch.proofs.Noting.{noting, noted_writes, Noted, all_noted, fold_writes}
 use Rattle.batch.proofs.StepsBack.{stays_inside, comes_round}

@@ -1,9 +1,9 @@
 -- All links counted: for each slot, how many go into it, and how many come out of it.
-use Rattle.std.proofs.Common.{◌≡◌, ℕ, zero, suc, ◌+◌, ◌-◌, ◌/◌, ◌%◌, ◌^◌, ◌<◌, ◌≤◌, min, Bool, true, ◌&&◌, eqb, ltb, List, [], ◌∷◌, map, reverse, length, sym, refl, ap, ◌∙◌, subst, ap₂, inl, inr, arith}
+use Rattle.std.proofs.Common.{◌≡◌, ℕ, zero, suc, ◌+◌, ◌-◌, ◌/◌, ◌%◌, ◌^◌, ◌<◌, ◌≤◌, min, Bool, true, eqb, ltb, List, [], ◌∷◌, map, reverse, length, sym, refl, ap, ◌∙◌, subst, ap₂, inl, inr, arith}
 use lib.ListN.{length-map}
 use Rattle.std.specs.List.{fold}
 use Rattle.std.proofs.lemmas.List.{length-reverse}
-use Rattle.std.proofs.lemmas.Bool.{cases_eq, eq-eqb, ne_eqb, ltb-true, lt-ltb, and_parts}
+use Rattle.std.proofs.lemmas.Bool.{cases_eq, eq-eqb, ne_eqb, ltb-true, and_parts}
 use Rattle.order.specs.declared.board.TheConstants.{CARDS}
 use Rattle.order.specs.declared.board.Link.{Link}
 use Rattle.order.specs.Lists.{every, filter}
@@ -160,7 +160,7 @@ module _ (m : List ℕ) (long : LEAVES.base + LEAVES.size ≤ length m) (T : IsT
       let k = wiped CARDS m WAITS 0 in
       let w = wiped_writes m WAITS CARDS m 0 (same (WAITS ∷ []) m) in (
         (wiped_writes k LEAVES CARDS k 0 (same (LEAVES ∷ []) k)).others WAITS s refl
-        ∙ wiped_in CARDS m WAITS 0 s (omega (arith, long)) (omega arith) (omega arith) h,
+            ∙ wiped_in CARDS m WAITS 0 s (omega (arith, long)) (omega arith) (omega arith) h,
         wiped_in CARDS k LEAVES 0 s (omega (arith, long, w.as_long)) (omega arith) (omega arith) h,
       )
 

@@ -1,5 +1,5 @@
 -- Places are marked as soon as their slots wait for none.
-use Rattle.std.proofs.Common.{◌≡◌, ℕ, zero, suc, ◌+◌, ◌-◌, ◌<◌, ◌≤◌, min, Bool, true, false, ◌&&◌, ◌||◌, eqb, ltb, List, [], ◌∷◌, length, sym, refl, ap, ◌∙◌, subst, ap₂, inl, inr, add-one, arith}
+use Rattle.std.proofs.Common.{◌≡◌, ℕ, zero, suc, ◌+◌, ◌-◌, ◌<◌, ◌≤◌, min, Bool, true, false, ◌&&◌, ◌||◌, eqb, ltb, List, length, sym, refl, ap, ◌∙◌, subst, ap₂, inl, inr, add-one, arith}
 use Rattle.std.proofs.lemmas.Bool.{cases_Bool, cases_eq, cases_lt, eq-eqb, ne_eqb, lt-ltb, le-ltb}
 use Rattle.std.proofs.lemmas.Bool.Decides.{nat_tests}
 use Rattle.order.specs.declared.board.TheConstants.{CARDS}
@@ -18,7 +18,7 @@ use Rattle.links.specs.Table.{edges, IsTable}
 use Rattle.search.specs.declared.layout.TheConstants.{FORE}
 use Rattle.search.specs.Meaning.{slot_on}
 use Rattle.search.proofs.Exchanged.{with_at, at_here, at_else}
-use Rattle.batch.specs.declared.layout.TheConstants.{SPARE, WAITS, LEAVES}
+use Rattle.batch.specs.declared.layout.TheConstants.{WAITS, LEAVES}
 use Rattle.batch.specs.Dense.{Dense}
 use Rattle.batch.specs.Renewing.{freed, freed_all, frees, lessened}
 use Rattle.batch.specs.RuleLaws.{within_row}

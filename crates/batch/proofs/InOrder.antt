@@ -8,7 +8,7 @@ use Rattle.memory.specs.Columns.{cell, written}
 use Rattle.memory.specs.Footprints.{Writes}
 use Rattle.memory.proofs.Cells.{cell_apart}
 use Rattle.row.specs.declared.layout.TheConstants.{IDS, CHAIN, SLOTS}
-use Rattle.row.specs.Meaning.{cards, used, count, IsRow}
+use Rattle.row.specs.Meaning.{cards, count, IsRow}
 use Rattle.row.specs.Moves.{packed}
 use Rattle.row.specs.Laws.{Packed}
 use Rattle.row.proofs.Again.{packs}

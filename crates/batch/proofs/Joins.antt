@@ -113,8 +113,7 @@ module _ (m : List ℕ) (M : Means m (card_board m)) (l : Link) (sm : small_comm
         unfolding must_be link_must_be joined_slots
         found (Some y) e T =
             let j = by_slots ∙ rw (lt-ltb _ _ w, e) refl in
-            let ld : leads r l.to l.from ≡ true = leads_is m R l.from l.to s t A B ∙ T.round in
-            (
+            let ld : leads r l.to l.from ≡ true = leads_is m R l.from l.to s t A B ∙ T.round in (
               (λ z. absurd (both_ways _ z ld)),
               λ _. record {
                 way = round_cards m₁ x y;

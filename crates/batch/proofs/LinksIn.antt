@@ -1,10 +1,9 @@
 -- Links are put into a memory that holds their cards.
-use Rattle.std.proofs.Common.{◌≡◌, ℕ, ◌+◌, ◌<◌, ◌≤◌, true, ◌&&◌, List, [], ◌∷◌, ◌++◌, map, length, replicate, is_some, Some, None, Option, sym, refl, ap, ◌∙◌, subst, ap₂, inl, inr, append_assoc, arith, length-append}
+use Rattle.std.proofs.Common.{◌≡◌, ℕ, ◌+◌, ◌<◌, ◌≤◌, true, ◌&&◌, List, [], ◌∷◌, ◌++◌, map, length, replicate, Some, None, Option, sym, refl, ap, ◌∙◌, subst, ap₂, inl, inr, append_assoc, arith, length-append}
 use lib.ListN.{length-map}
-use Rattle.std.specs.List.{list_all}
 use Rattle.std.proofs.lemmas.List.{append-nil, map-append}
 use Rattle.std.proofs.lemmas.Bool.{cases_Bool, cases_lt, lt-leb, le-leb, and_parts}
-use Rattle.order.specs.declared.board.TheConstants.{CARDS, LINKS}
+use Rattle.order.specs.declared.board.TheConstants.{LINKS}
 use Rattle.order.specs.declared.board.Link.{Link}
 use Rattle.order.specs.declared.board.Refusal.{Refusal}
 use Rattle.order.specs.Lists.{every, has}
@@ -22,7 +21,7 @@ use Rattle.row.proofs.Named.{used_below}
 use Rattle.row.proofs.Present.{finds}
 use Rattle.links.specs.declared.layout.TheConstants.{ENTRIES}
 use Rattle.links.specs.Entries.{inserted}
-use Rattle.links.specs.Table.{columns as link_columns, edges, IsTable}
+use Rattle.links.specs.Table.{columns as link_columns, edges}
 use Rattle.links.proofs.Operating.{inserts_table, inserts_edges}
 use Rattle.links.proofs.Writing.{inserted_writes}
 use Rattle.search.specs.declared.layout.TheConstants.{FORE}

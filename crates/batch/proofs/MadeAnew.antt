@@ -1,5 +1,5 @@
 -- The row made anew, from a sound memory on.
-use Rattle.std.proofs.Common.{◌≡◌, ℕ, ◌+◌, ◌≤◌, min, true, false, ◌&&◌, eqb, ltb, List, map, length, sym, refl, ap, ◌∙◌, subst, ap₂, inl, inr, arith}
+use Rattle.std.proofs.Common.{◌≡◌, ℕ, ◌+◌, ◌≤◌, min, false, ◌&&◌, eqb, ltb, List, map, length, sym, refl, ap, ◌∙◌, subst, ap₂, inl, inr, arith}
 use Rattle.std.specs.List.{range_with_len}
 use Rattle.std.proofs.lemmas.Bool.{cases_lt, lt-ltb, le-ltb, and_parts}
 use Rattle.order.specs.declared.board.TheConstants.{CARDS}
@@ -12,7 +12,7 @@ use Rattle.memory.specs.PlaceSets.{marked}
 use Rattle.memory.specs.PlaceSetLaws.{Summed}
 use Rattle.memory.proofs.Footprints.{less}
 use Rattle.row.specs.declared.layout.TheConstants.{COUNT}
-use Rattle.row.specs.Meaning.{row_of, cards, used, count, IsRow}
+use Rattle.row.specs.Meaning.{row_of, count, IsRow}
 use Rattle.row.specs.Moves.{packed}
 use Rattle.row.specs.Laws.{Packed}
 use Rattle.row.proofs.Again.{packs}
@@ -23,7 +23,6 @@ use Rattle.search.specs.declared.layout.TheConstants.{FORE}
 use Rattle.search.specs.Meaning.{slot_on}
 use Rattle.batch.specs.declared.layout.TheConstants.{SPARE, LEAVES}
 use Rattle.batch.specs.Columns.{packing}
-use Rattle.batch.specs.Dense.{Dense}
 use Rattle.batch.specs.Renewing.{cleared, counts, frees, prepared, renewing, drawn_all, renewed}
 use Rattle.batch.specs.Rule.{anew}
 use Rattle.batch.specs.RuleLaws.{within_row}

@@ -1,7 +1,6 @@
 -- A row that is packed means the same board, and has no gaps.
 use Rattle.std.proofs.Common.{◌≡◌, ℕ, List, [], ◌∷◌, length, refl}
 use Rattle.memory.specs.declared.column.Column.{Column}
-use Rattle.memory.specs.Footprints.{Writes}
 use Rattle.order.specs.Board.{Board}
 use Rattle.row.specs.declared.layout.TheConstants.{ENDING, SLOTS, SEATS, TAKEN}
 use Rattle.row.specs.Moves.{packed}

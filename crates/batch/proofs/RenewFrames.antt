@@ -1,5 +1,5 @@
 -- What making the row anew writes, whatever the memory.
-use Rattle.std.proofs.Common.{◌≡◌, ℕ, zero, suc, ◌+◌, ◌<◌, ◌≤◌, min, List, [], ◌∷◌, Some, None, Option, sym, refl, subst, arith}
+use Rattle.std.proofs.Common.{◌≡◌, ℕ, zero, suc, ◌+◌, min, List, [], ◌∷◌, Some, None, Option, sym, refl, subst, arith}
 use Rattle.order.specs.declared.board.TheConstants.{CARDS}
 use Rattle.memory.specs.declared.column.Column.{Column}
 use Rattle.memory.specs.Columns.{cell, written}
@@ -16,7 +16,7 @@ use Rattle.links.specs.declared.layout.TheConstants.{ENTRIES, OUT, AGE, ALL}
 use Rattle.search.specs.declared.layout.TheConstants.{FORE}
 use Rattle.batch.specs.declared.layout.TheConstants.{SPARE, WAITS, LEAVES}
 use Rattle.batch.specs.Columns.{packing, renewing as renewing_columns}
-use Rattle.batch.specs.Renewing.{counted, counts, cleared, frees, prepared, lessened, released, let_go, drawn, Renewed, renewing, drawn_all, renewed}
+use Rattle.batch.specs.Renewing.{counted, counts, cleared, prepared, lessened, released, let_go, drawn, renewing, drawn_all, renewed}
 use Rattle.batch.proofs.LinkByLink.{along_writes}
 use Rattle.batch.proofs.Writing.{counting, counted_writes, cleared_writes, marking, freed_all_writes, lessening, lessened_writes, removed_writes}
 

@@ -1,7 +1,7 @@
 -- The row seated again: the slots put aside stand at their places, and the row is packed.
-use Rattle.std.proofs.Common.{◌≡◌, ℕ, zero, suc, ◌+◌, ◌-◌, ◌^◌, ◌<◌, ◌≤◌, min, Bool, true, false, ◌⊎◌, ltb, List, [], ◌∷◌, ◌++◌, map, length, take, drop, sym, refl, ap, ◌∙◌, subst, ap₂, inl, inr, arith}
+use Rattle.std.proofs.Common.{◌≡◌, ℕ, zero, suc, ◌+◌, ◌-◌, ◌<◌, ◌≤◌, min, true, false, ◌⊎◌, ltb, List, [], ◌∷◌, ◌++◌, map, length, take, drop, sym, refl, ap, ◌∙◌, ap₂, inl, inr, arith}
 use Rattle.std.specs.List.{range_with_len}
-use Rattle.std.proofs.lemmas.List.FromFn.{length-map-range_with_len, take-map-range_with_len}
+use Rattle.std.proofs.lemmas.List.FromFn.{take-map-range_with_len}
 use Rattle.std.proofs.lemmas.Bool.{cases_Bool, cases_eq, cases_lt, both_ways, ltb-true, lt-ltb}
 use Rattle.order.specs.declared.board.TheConstants.{CARDS}
 use Rattle.order.specs.Lists.{has, distinct}
@@ -9,19 +9,19 @@ use Rattle.order.proofs.Tabulated.{made_same, made_has, has_made, drop_made, tak
 use Rattle.order.proofs.Members.{has_head, has_tail, not_again, distinct_tail}
 use Rattle.order.proofs.Parts.{with_part, row_in_parts}
 use Rattle.memory.specs.declared.column.Column.{Column}
-use Rattle.memory.specs.Columns.{cell, written, apart}
+use Rattle.memory.specs.Columns.{cell, written}
 use Rattle.memory.specs.Footprints.{at_each, Writes, View, view}
 use Rattle.memory.proofs.Cells.{length_written, cell_same, cell_other, cell_apart}
 use Rattle.memory.proofs.Footprints.{kept, view_same}
 use Rattle.row.specs.declared.layout.TheConstants.{SEATS_MOST, COUNT, ENDING, FRESH, FREE, IDS, CHAIN, SLOTS, SEATS, TAKEN}
-use Rattle.row.specs.Meaning.{bit_set, in_use, count, ending, taken, row_of, used, Standing, IsRow}
+use Rattle.row.specs.Meaning.{bit_set, in_use, count, ending, taken, row_of, used, Standing}
 use Rattle.row.specs.Moves.{put_at}
 use Rattle.batch.specs.declared.layout.TheConstants.{SPARE}
 use Rattle.batch.specs.Columns.{seated}
 use Rattle.batch.specs.Dense.{Dense}
 use Rattle.batch.specs.Seating.{reseated}
 use Rattle.batch.specs.SeatLaws.{Seated, Reseats}
-use Rattle.batch.proofs.Denseness.{few, row_is, slot_at, slot_one, slot_used, used_place, used_below}
+use Rattle.batch.proofs.Denseness.{few, row_is, slot_at, slot_one, slot_used}
 use Rattle.batch.proofs.SeatsMoved.{Moves, same_live, still_stands}
 use Rattle.batch.proofs.Writing.{reseated_writes}
 

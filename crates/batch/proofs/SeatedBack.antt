@@ -1,11 +1,10 @@
 -- A memory with the row as another one had it put aside: seated again, it means the board that the other one means.
-use Rattle.std.proofs.Common.{◌≡◌, ℕ, ◌+◌, ◌-◌, ◌<◌, ◌≤◌, true, List, [], ◌∷◌, map, length, take, drop, sym, refl, ap, ◌∙◌, subst, ap₂, arith}
+use Rattle.std.proofs.Common.{◌≡◌, ℕ, ◌+◌, ◌-◌, ◌<◌, ◌≤◌, true, List, [], ◌∷◌, map, length, take, drop, sym, refl, ap, ◌∙◌, subst, arith}
 use mathlib.Core.Path.{fun_ext}
 use Rattle.std.specs.List.{range_with_len}
 use Rattle.std.proofs.lemmas.List.{take-map, drop-map}
-use Rattle.order.specs.declared.board.Link.{Link}
 use Rattle.order.specs.Lists.{has, distinct}
-use Rattle.order.specs.Board.{Board, fine}
+use Rattle.order.specs.Board.{Board}
 use Rattle.memory.specs.Columns.{cell}
 use Rattle.memory.specs.Footprints.{Writes}
 use Rattle.row.specs.declared.layout.TheConstants.{IDS, CHAIN, SLOTS, SEATS}

@@ -1,11 +1,11 @@
 -- Slots take each other's seats, over any columns: what stands, stands; the same slots are in use.
-use Rattle.std.proofs.Common.{◌≡◌, ℕ, ◌<◌, Bool, true, false, ◌&&◌, eqb, ltb, List, [], ◌∷◌, sym, refl, ap, ◌∙◌, ap₂, inl, inr}
+use Rattle.std.proofs.Common.{◌≡◌, ℕ, ◌<◌, Bool, true, false, ◌&&◌, eqb, ltb, List, [], ◌∷◌, sym, ap, ◌∙◌, inl, inr}
 use Rattle.std.proofs.lemmas.Bool.{cases_Bool, both_ways, lt-ltb, eq-eqb, eqb-true, and_parts, and_from}
 use Rattle.order.specs.declared.board.TheConstants.{CARDS}
 use Rattle.order.specs.Lists.{has}
 use Rattle.order.proofs.Members.{has_head, has_tail}
 use Rattle.row.specs.Lookup.{bucket}
-use Rattle.row.specs.Meaning.{in_use, Seating, Chains, Stacked, Freed, Standing}
+use Rattle.row.specs.Meaning.{in_use, Chains, Stacked, Freed, Standing}
 
 -- slot and seat are the columns before, slot' and seat' after: at each taken seat sits a slot that has it, the same slots sit, and a slot that doesn't is
 -- left as it was

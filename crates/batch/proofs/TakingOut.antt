@@ -3,9 +3,8 @@ use Rattle.std.proofs.Common.{◌≡◌, ℕ, Bool, true, false, not, List, [], 
 use Rattle.std.proofs.lemmas.Bool.{eq-eqb, and_parts}
 use Rattle.std.proofs.lemmas.Bool.Decides.{nat_tests}
 use Rattle.order.specs.declared.board.Link.{Link}
-use Rattle.command.specs.declared.command.Command.TheVariants.{Link as Links}
 use Rattle.order.specs.Lists.{every, any, filter}
-use Rattle.order.specs.Board.{Board, ◌⟶◌, linked}
+use Rattle.order.specs.Board.{Board, linked}
 use Rattle.order.specs.Renaming.{named}
 use Rattle.memory.specs.Columns.{cell}
 use Rattle.row.specs.declared.layout.TheConstants.{IDS}
@@ -15,7 +14,6 @@ use Rattle.order.proofs.RenamesLinks.{Known, joins_map}
 use Rattle.links.specs.Pairs.{joins}
 use Rattle.links.specs.Table.{edges, once}
 use Rattle.search.specs.Meaning.{Ready}
-use Rattle.keeper.specs.Promise.{small_command}
 use Rattle.keeper.specs.Meaning.{card_board, Means}
 use Rattle.keeper.proofs.Knowing.{fine_cards, ends_used}
 use Rattle.keeper.proofs.TwoCards.{Seated, seated, slots_there, linked_is}

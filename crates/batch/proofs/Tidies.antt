@@ -4,9 +4,8 @@ use lib.ListN.{length-map}
 use Rattle.std.proofs.lemmas.Bool.{le-ltb}
 use Rattle.order.specs.declared.board.TheConstants.{CARDS}
 use Rattle.order.specs.declared.board.Link.{Link}
-use Rattle.order.specs.Lists.{distinct}
 use Rattle.order.specs.Board.{Board, fine}
-use Rattle.order.specs.Renaming.{named, renamed, Naming}
+use Rattle.order.specs.Renaming.{renamed, Naming}
 use Rattle.memory.specs.Columns.{cell}
 use Rattle.row.specs.declared.layout.TheConstants.{IDS}
 use Rattle.row.specs.Meaning.{row_of, used, count}

@@ -1,9 +1,8 @@
 -- What tidying the row writes, whatever stands in the memory.
-use Rattle.std.proofs.Common.{◌≡◌, ℕ, zero, suc, ◌+◌, ◌<◌, ◌≤◌, min, Bool, ltb, List, Some, None, Option, sym, refl, subst, arith}
+use Rattle.std.proofs.Common.{◌≡◌, ℕ, zero, suc, ◌+◌, ◌≤◌, min, ltb, List, sym, refl, subst, arith}
 use Rattle.std.proofs.lemmas.Bool.{cond_both}
 use Rattle.order.specs.declared.board.TheConstants.{CARDS}
 use Rattle.memory.specs.Footprints.{Writes}
-use Rattle.memory.specs.Options.{given}
 use Rattle.memory.specs.PlaceSets.{first_mark}
 use Rattle.memory.proofs.Footprints.{less, after}
 use Rattle.memory.proofs.Options.{given_holds}

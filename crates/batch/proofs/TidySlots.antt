@@ -1,5 +1,5 @@
 -- The row of slots, tidied: all come, and stand as they come by the rule.
-use Rattle.std.proofs.Common.{◌≡◌, ℕ, ◌+◌, ◌≤◌, Bool, true, ◌&&◌, List, map, length, sym, refl, ap, ◌∙◌, subst, inl, inr, arith}
+use Rattle.std.proofs.Common.{◌≡◌, ℕ, Bool, true, ◌&&◌, List, map, length, sym, refl, ap, ◌∙◌, subst, inl, inr, arith}
 use Rattle.std.proofs.lemmas.Bool.{cases_lt, and_parts, and_from}
 use Rattle.order.specs.declared.board.Link.{Link}
 use Rattle.order.specs.Lists.{every, has, distinct}
@@ -14,12 +14,12 @@ use Rattle.memory.proofs.Alone.{cells_alone}
 use Rattle.memory.proofs.Footprints.{after}
 use Rattle.row.specs.declared.layout.TheConstants.{IDS}
 use Rattle.row.specs.Meaning.{row_of, cards, used, count}
-use Rattle.links.specs.Table.{edges, IsTable}
+use Rattle.links.specs.Table.{edges}
 use Rattle.links.proofs.Keeping.{table_kept, edges_kept}
 use Rattle.search.specs.declared.layout.TheConstants.{FORE, HIND}
 use Rattle.search.specs.Meaning.{slot_board, Ready}
 use Rattle.keeper.proofs.Knowing.{ends_used}
-use Rattle.batch.specs.Columns.{seated, arranging, renewing, tidying}
+use Rattle.batch.specs.Columns.{seated, arranging, tidying}
 use Rattle.batch.specs.Seating.{reseated}
 use Rattle.batch.specs.Rule.{anew, Ruled, sorted}
 use Rattle.batch.specs.RuleLaws.{within_row}

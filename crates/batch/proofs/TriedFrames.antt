@@ -1,14 +1,14 @@
 -- What links that are tried, and taken out again, leave as it was, whatever the memory.
-use Rattle.std.proofs.Common.{◌≡◌, ℕ, ◌+◌, true, eqb, ltb, List, [], ◌∷◌, ◌++◌, Option, refl}
+use Rattle.std.proofs.Common.{ℕ, ◌+◌, eqb, ltb, List, [], ◌∷◌, Option, refl}
 use Rattle.std.proofs.lemmas.Bool.{cond_both}
 use Rattle.memory.specs.declared.column.Column.{Column}
 use Rattle.memory.specs.Columns.{cell}
-use Rattle.memory.specs.Footprints.{within, Writes}
+use Rattle.memory.specs.Footprints.{Writes}
 use Rattle.memory.proofs.Footprints.{same, on, less, after}
 use Rattle.memory.proofs.Options.{given_holds}
 use Rattle.order.specs.declared.board.Link.{Link}
 use Rattle.row.specs.declared.layout.TheConstants.{SLOTS, SEATS}
-use Rattle.links.specs.Entries.{inserted, removed}
+use Rattle.links.specs.Entries.{inserted}
 use Rattle.links.specs.Table.{columns as table}
 use Rattle.links.proofs.Writing.{inserted_writes, removed_writes}
 use Rattle.search.specs.declared.layout.TheConstants.{VIA, CHOSEN, FORE, HIND}

@@ -11,7 +11,6 @@ use Rattle.keeper.specs.Sized.{KeepsSize, fits, small_event}
 use Rattle.order.specs.Lists.{every}
 use Rattle.memory.proofs.Cells.{small_cell}
 use Rattle.row.specs.declared.layout.TheConstants.{COUNT}
-use Rattle.row.specs.Meaning.{count}
 use Rattle.keeper.proofs.Size.{size_same, size_writes}
 use Rattle.keeper.proofs.OwnSize.{Sized, sized_cond, sized_then, sized_on, sized_busy, sized_answer, own_steady}
 use Rattle.keeper.proofs.Wholly.{at_start}

@@ -1,12 +1,11 @@
 -- What the steps write that make the row anew, whatever the memory.
-use Rattle.std.proofs.Common.{◌≡◌, ℕ, zero, suc, ◌+◌, ◌-◌, ◌/◌, ◌%◌, ◌^◌, ◌<◌, ◌≤◌, min, true, ◌||◌, eqb, List, [], ◌∷◌, sym, refl, subst, arith}
+use Rattle.std.proofs.Common.{◌≡◌, ℕ, zero, suc, ◌+◌, ◌-◌, ◌/◌, ◌%◌, ◌^◌, ◌<◌, ◌≤◌, min, ◌||◌, eqb, List, [], ◌∷◌, sym, refl, subst, arith}
 use lib.Bits.{bit_xor}
 use Rattle.std.proofs.lemmas.Nat.{xor_lt, pow_below}
-use Rattle.std.proofs.lemmas.Bool.{cond_both}
 use Rattle.order.specs.declared.board.TheConstants.{CARDS}
 use Rattle.memory.specs.declared.column.Column.{Column}
 use Rattle.memory.specs.Columns.{cell, written, wiped}
-use Rattle.memory.specs.Footprints.{covered, within, Small, Writes, at_each}
+use Rattle.memory.specs.Footprints.{Writes, at_each}
 use Rattle.memory.specs.PlaceSets.{flipped, toggled, fresh, added, marked, removed}
 use Rattle.memory.proofs.Cells.{small_cell}
 use Rattle.memory.proofs.Footprints.{same, on, less, after, put, put_one, either, each}

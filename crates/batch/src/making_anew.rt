@@ -51,12 +51,7 @@ fn finish(memory: &mut Memory, out: &mut [u64]) -> Anew
 
 // Makes the row of these cards and links anew, in lent memory.
 #[tactic(auto, unfolding(crate::specs::MakingAnew::made))]
-fn make(
-    memory: &mut Memory,
-    row: &[u64],
-    links: &[Link],
-    out: &mut [u64],
-) -> Result<Anew, Reason>
+fn make(memory: &mut Memory, row: &[u64], links: &[Link], out: &mut [u64]) -> Result<Anew, Reason>
     requires { OUTPUT ≤ length out.old }
     ensures { MadeSo (made (loaded (replicate (length memory.old) 0) row.now links.now) out.old) result memory.new out.new }
 {
