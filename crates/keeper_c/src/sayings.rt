@@ -12,8 +12,8 @@ ghost use Rattle.keeper_c.specs.Answers.{CameTo};
 
 use crate::answer::KeeperAnswer;
 use batch::{Event, play};
-use keeper::read_row;
 use command::Command;
+use keeper::read_row;
 use order::Link;
 
 // A command is said to the engine that takes several links at once too, so that all functions are of one engine.
