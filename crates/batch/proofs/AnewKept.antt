@@ -4,10 +4,10 @@ use Rattle.std.proofs.lemmas.List.{drop_all}
 use Rattle.std.proofs.lemmas.List.Sorted.{length_permutation}
 use Rattle.order.specs.Board.{Board}
 use Rattle.command.specs.Commands.{told_rows}
-use Rattle.row.specs.Layout.{count}
+use Rattle.memory.specs.declared.column.TheConstants.{MEMORY}
+use Rattle.row.specs.Meaning.{count}
 use Rattle.order.proofs.Climbs.{fine_parts}
 use Rattle.row.proofs.Present.{length_cards}
-use Rattle.keeper.proofs.Knowing.{row_is}
 use Rattle.keeper.proofs.ToldRuns.{from_first}
 use Rattle.batch.specs.Engine.{anew}
 use Rattle.batch.specs.Promise.{small_saying, Done, Refused}
@@ -24,7 +24,7 @@ use Rattle.batch.proofs.SpanTold.{ToldSo, span_told}
 use Rattle.batch.proofs.Runs.{idle_first}
 use Rattle.batch.proofs.Simulation.{Keeps, StepKept}
 
-module _ (m : List ℕ) (r : Board) (l : length m ≡ 524288) (K : Keeps m r) where
+module _ (m : List ℕ) (r : Board) (l : length m ≡ MEMORY) (K : Keeps m r) where
   abbrev k : List ℕ
   k = (tidied m).memory
 
@@ -43,9 +43,7 @@ module _ (m : List ℕ) (r : Board) (l : length m ≡ 524288) (K : Keeps m r) wh
       ∙ length_permutation r.row (sorted r.row) (sorted_shuffles r.row)
 
   counted : count k ≡ length new
-  counted =
-      let M = T.means in
-      sym (length_cards k M.ready.stands) ∙ sym (ap length (row_is k M.ready)) ∙ ap (λ (b : Board). length b.row) (sym M.is)
+  counted = sym (length_cards k T.means.ready.is_row) ∙ ap (λ (b : Board). length b.row) (sym T.means.is)
 
   told : ToldSo k (row_made r new) (whole_row k)
   told = span_told k (row_made r new) T.means (whole_row k) (omega arith) (omega (arith, counted))

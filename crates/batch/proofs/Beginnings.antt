@@ -1,6 +1,8 @@
 -- A step is taken if the memory and the output fit, else nothing is changed.
 use Rattle.std.proofs.Common.{◌≡◌, ℕ, ◌≤◌, Bool, true, false, ◌++◌, List, length, take, drop, Err, Result, sym, refl, ap, ◌∙◌, ap₂, arith}
 use Rattle.std.proofs.lemmas.Bool.Decides.{nat_tests}
+use Rattle.memory.specs.declared.column.TheConstants.{MEMORY}
+use Rattle.keeper.specs.declared.layout.TheConstants.{OUTPUT}
 use Rattle.keeper.specs.declared.event.Reason.{Reason}
 use Rattle.keeper.specs.declared.event.Reason.TheVariants.{Unfit}
 use Rattle.keeper.specs.declared.event.Act.{Act}
@@ -20,17 +22,17 @@ use Rattle.batch.proofs.Room.{few}
 use Rattle.batch.proofs.Wholly.{own_fits, whole_in_own}
 
 -- a step whose answer is given in the front of the output
-pub took : (w : Telling) (m : List ℕ) (h : Heard) (out : List ℕ) (r : Result Act Reason) (m₁ front₁ : List ℕ) → length m ≡ 524288 → 8192 ≤ length out →
-    Gives (as_told w (answer m h)) (take 8192 out) r m₁ front₁ → StepsTo (stepped w m h out) r m₁ (front₁ ++ drop 8192 out)
+pub took : (w : Telling) (m : List ℕ) (h : Heard) (out : List ℕ) (r : Result Act Reason) (m₁ front₁ : List ℕ) → length m ≡ MEMORY → OUTPUT ≤ length out →
+    Gives (as_told w (answer m h)) (take OUTPUT out) r m₁ front₁ → StepsTo (stepped w m h out) r m₁ (front₁ ++ drop OUTPUT out)
 unfolding stepped as_told
 took w m h out r m₁ front₁ e u g =
     let f : step_fits m out ≡ true = grind (arith, nat_tests) in
     let ks = (as_told w (answer m h)).numbers in
-    let l : length ks ≤ 8192 = omega (arith, written_few w (answer m h).act (answer m h).numbers, few m h) in
+    let l : length ks ≤ OUTPUT = omega (arith, written_few w (answer m h).act (answer m h).numbers, few m h) in
     rw f (record {
       act = g.act;
       after = g.after;
-      out = ap (λ (xs : List ℕ). xs ++ drop 8192 out) g.out ∙ front_stands 8192 ks out l u;
+      out = ap (λ (xs : List ℕ). xs ++ drop OUTPUT out) g.out ∙ front_stands OUTPUT ks out l u;
     })
 
 pub untook : (w : Telling) (m : List ℕ) (h : Heard) (out : List ℕ) → step_fits m out ≡ false → StepsTo (stepped w m h out) (Err Unfit) m out

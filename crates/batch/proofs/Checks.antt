@@ -3,7 +3,7 @@ use Rattle.std.proofs.Common.{◌≡◌, ℕ, ◌+◌, Bool, ◌||◌, List, [],
 use Rattle.std.proofs.lemmas.List.{take_at}
 use Rattle.std.specs.List.{list_any, enumerate_from}
 use Rattle.order.specs.declared.board.Link.{Link}
-use Rattle.links.specs.Entries.{joins}
+use Rattle.links.specs.Pairs.{joins}
 use Rattle.batch.specs.Checking.{known, repeated}
 
 -- the link at i was said before, or stands among the first i

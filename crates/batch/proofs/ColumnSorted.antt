@@ -1,5 +1,5 @@
 -- The first numbers of a column were sorted: they stand in it in their order, and nothing else changes.
-use Rattle.std.proofs.Common.{◌≡◌, ℕ, ◌+◌, ◌-◌, ◌≤◌, List, map, length, sym, ap, ◌∙◌, inl, inr, arith}
+use Rattle.std.proofs.Common.{◌≡◌, ℕ, ◌+◌, ◌-◌, ◌≤◌, List, [], ◌∷◌, map, length, sym, ap, ◌∙◌, inl, inr, arith}
 use Rattle.std.specs.List.{range_with_len, between}
 use Rattle.std.proofs.lemmas.Bool.Decides.{nat_tests}
 use Rattle.std.proofs.lemmas.Bool.{cases_lt}
@@ -7,11 +7,10 @@ use Rattle.std.proofs.lemmas.List.Edits.{length-between, get_or-between}
 use Rattle.std.proofs.lemmas.List.FromFn.{fill_by_all}
 use Rattle.memory.specs.declared.column.Column.{Column}
 use Rattle.memory.specs.Columns.{cell}
-use Rattle.search.specs.SetLaws.{Only}
+use Rattle.memory.specs.Footprints.{Writes}
 use Rattle.batch.specs.Rule.{sorted}
 use Rattle.batch.specs.Sorting.{sorted_part}
-use Rattle.keeper.proofs.OwnSize.{small_each, each_small}
-use Rattle.batch.proofs.PartSorted.{length_sorted_part, part_is, cell_outside_part, size_sorted_part}
+use Rattle.batch.proofs.PartSorted.{length_sorted_part, part_is, cell_outside_part, small_sorted_part}
 
 module _ (c : Column) (n : ℕ) (few : n ≤ c.size) where
   first_cells : (m : List ℕ) → c.base + c.size ≤ length m → between c.base (c.base + n) m ≡ map (cell m c) (range_with_len 0 n)
@@ -25,14 +24,14 @@ module _ (c : Column) (n : ℕ) (few : n ≤ c.size) where
     abbrev m' : List ℕ
     m' = sorted_part m c.base (c.base + n)
 
-    pub only_sorted : Only c m m'
-    only_sorted = record {
-      long = length_sorted_part m c.base (c.base + n);
+    pub sorted_writes : Writes (c ∷ []) m m'
+    sorted_writes = record {
+      as_long = length_sorted_part m c.base (c.base + n);
       others = λ d i a. cell_outside_part m c.base (c.base + n) d i (elim (cases_lt d.base (c.base + c.size)) [
         | inl h ↦ inl (grind (arith, nat_tests))
         | inr h ↦ inr (omega arith)
       ]);
-      small = λ s. small_each m' ((size_sorted_part m c.base (c.base + n)).1 (each_small m s));
+      small = small_sorted_part m c.base (c.base + n);
     }
 
     pub cells_sorted : c.base + c.size ≤ length m → map (cell m' c) (range_with_len 0 n) ≡ sorted (map (cell m c) (range_with_len 0 n))

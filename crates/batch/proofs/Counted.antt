@@ -1,18 +1,18 @@
 -- Each answer of the engine comes with the numbers that it speaks of: as many as are shown, and none where nothing is shown or told.
 use Rattle.std.proofs.Common.{Ok, Err, Result, ◌≡◌, ℕ, ◌≤◌, Bool, true, false, cond, eqb, ltb, leb, List, [], length, refl, arith, Option}
 use Rattle.std.proofs.lemmas.Bool.{cond_both}
+use Rattle.order.specs.declared.board.TheConstants.{LINKS}
 use Rattle.command.specs.declared.command.Command.{Command}
 use Rattle.command.specs.declared.command.Command.TheVariants.{Comes, Goes, Link as Links, Unlink as Unlinks, Places}
 use Rattle.order.specs.declared.board.Link.{Link}
 use Rattle.order.specs.declared.board.Refusal.TheVariants.{Cycle}
 use Rattle.memory.specs.Columns.{cell}
-use Rattle.row.specs.Layout.{tally, places}
+use Rattle.row.specs.declared.layout.TheConstants.{SEATS}
 use Rattle.row.specs.Moves.{came, gone, place_found}
 use Rattle.memory.proofs.Options.{given_holds}
-use Rattle.links.specs.Entries.{found as entry_found}
-use Rattle.links.specs.Layout.{live}
-use Rattle.links.specs.Removing.{removed}
+use Rattle.links.specs.Entries.{found as entry_found, live, removed}
 use Rattle.search.specs.Hunt.{meeting}
+use Rattle.keeper.specs.declared.layout.TheConstants.{MORE_FROM, MORE_TO, TOLD}
 use Rattle.keeper.specs.declared.event.Event.{Event}
 use Rattle.keeper.specs.declared.event.Event.TheVariants.{Said, Next}
 use Rattle.keeper.specs.declared.event.Reason.{Reason}
@@ -25,6 +25,7 @@ use Rattle.keeper.specs.Reordering.{shown_round, moved, reordered}
 use Rattle.keeper.specs.Linking.{slots_found, unlinked, put_in, linked}
 use Rattle.keeper.specs.Own.{said as command_said, finished, went_on, answer as keeper_answer}
 use Rattle.keeper.proofs.OwnSize.{by_result_holds, Any}
+use Rattle.batch.specs.declared.layout.TheConstants.{BATCH}
 use Rattle.batch.specs.declared.seating.Span.{Span}
 use Rattle.batch.specs.Checking.{all_found, repeated}
 use Rattle.batch.specs.Joining.{Tried}
@@ -34,7 +35,7 @@ use Rattle.batch.specs.Engine.{one, several, anew, Heard, said, next}
 use Rattle.batch.specs.Own.{said_anew, when_idle, answer}
 
 abbrev pub CountedBy : Result Act Reason → List ℕ → Type 0
-CountedBy (Ok (Tells p n)) ks = n ≤ 4096
+CountedBy (Ok (Tells p n)) ks = n ≤ TOLD
 CountedBy (Ok (Shows n)) ks = length ks ≡ n
 CountedBy (Ok Done) ks = ks ≡ []
 CountedBy (Err e) ks = ks ≡ []
@@ -58,24 +59,24 @@ quiet_finished false false = refl
 counted_on : (m : List ℕ) → Counted (went_on m)
 unfolding went_on
 counted_on m =
-    cond_both (eqb (pending m) 3) (told_part m (cell m tally 5) (cell m tally 6)) (quiet (finished m)) Counted (λ _. counted_told m (cell m tally 5) (cell m tally 6)) (λ _. quiet_finished (eqb (pending m) 1) (eqb (pending m) 2))
+    cond_both (eqb (pending m) 3) (told_part m (cell m MORE_FROM 0) (cell m MORE_TO 0)) (quiet (finished m)) Counted (λ _. counted_told m (cell m MORE_FROM 0) (cell m MORE_TO 0)) (λ _. quiet_finished (eqb (pending m) 1) (eqb (pending m) 2))
 
 counted_reordered : (m : List ℕ) (x : Link) → Counted (reordered m x)
 unfolding reordered moved shown_round
 counted_reordered m x =
     let n = (meeting m x).memory in
-    given_holds Any Counted (meeting m x).answer _ _ tt (cond_both (leb 65536 (live n)) _ _ Counted (λ _. refl) (λ _. counted_told _ _ _)) (λ y _. refl)
+    given_holds Any Counted (meeting m x).answer _ _ tt (cond_both (leb LINKS (live n)) _ _ Counted (λ _. refl) (λ _. counted_told _ _ _)) (λ y _. refl)
 
 quiet_put : (m : List ℕ) (x : Link) → Quiet (put_in m x)
 unfolding put_in
-quiet_put m x = cond_both (leb 65536 (live m)) _ _ Quiet (λ _. refl) (λ _. refl)
+quiet_put m x = cond_both (leb LINKS (live m)) _ _ Quiet (λ _. refl) (λ _. refl)
 
 counted_linked : (m : List ℕ) (l : Link) → Counted (linked m l)
 unfolding linked
 counted_linked m l =
     given_holds Any Counted (slots_found m l) _ _ tt refl (λ x _.
     given_holds Any Counted (entry_found m x) _ _ tt
-    (cond_both (eqb x.from x.to) _ _ Counted (λ _. refl) (λ _. cond_both (ltb (cell m places x.to) (cell m places x.from)) _ _ Counted (λ _. counted_reordered m x) (λ _. quiet_put m x)))
+    (cond_both (eqb x.from x.to) _ _ Counted (λ _. refl) (λ _. cond_both (ltb (cell m SEATS x.to) (cell m SEATS x.from)) _ _ Counted (λ _. counted_reordered m x) (λ _. quiet_put m x)))
     (λ _ _. refl))
 
 counted_said : (m : List ℕ) (c : Command) → Counted (command_said m c)
@@ -97,7 +98,7 @@ counted_command m Next = counted_on m
 counted_brought : (m : List ℕ) (ls : List Link) (s : Option Span) → Counted (brought m ls s)
 unfolding brought
 counted_brought m ls o =
-    cond_both (leb (live m) 65536) _ _ Counted (λ _. given_holds Any Counted o _ _ tt refl (λ s _. counted_on (noting m s))) (λ _. refl)
+    cond_both (leb (live m) LINKS) _ _ Counted (λ _. given_holds Any Counted o _ _ tt refl (λ s _. counted_on (noting m s))) (λ _. refl)
 
 counted_trial : (t : Tried) (ls : List Link) (s : Option Span) → Counted (by_trial t ls s)
 unfolding by_trial
@@ -106,7 +107,7 @@ counted_trial t ls s = given_holds Any Counted t.way _ _ tt (counted_brought t.m
 counted_several : (m : List ℕ) (ls : List Link) → Counted (said_several m ls)
 unfolding said_several rearranged
 counted_several m ls =
-    cond_both (leb (length ls) 256) _ _ Counted (λ _. cond_both (all_found m ls) _ _ Counted (λ _. cond_both (repeated m [] ls) _ _ Counted (λ _. refl) (λ _. counted_trial _ _ _)) (λ _. refl)) (λ _. refl)
+    cond_both (leb (length ls) BATCH) _ _ Counted (λ _. cond_both (all_found m ls) _ _ Counted (λ _. cond_both (repeated m [] ls) _ _ Counted (λ _. refl) (λ _. counted_trial _ _ _)) (λ _. refl)) (λ _. refl)
 
 counted_anew : (m : List ℕ) → Counted (said_anew m)
 unfolding said_anew

@@ -5,7 +5,7 @@ use Rattle.order.specs.declared.board.Link.{Link}
 use Rattle.command.specs.declared.command.Command.TheVariants.{Link as Links}
 use Rattle.order.specs.Lists.{has, place, distinct}
 use Rattle.order.specs.Board.{Board}
-use Rattle.order.specs.Reordering.{link_must_be, backward}
+use Rattle.order.specs.Reordering.{backward, link_must_be}
 use Rattle.command.specs.Commands.{must_be}
 use Rattle.order.proofs.Filters.{same_is}
 use Rattle.order.proofs.Little.{little_parts, place_by_front, place_by_rest}

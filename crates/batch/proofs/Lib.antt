@@ -47,7 +47,6 @@ pub mod Saving
 pub mod Reseating
 pub mod SaidSize
 pub mod RenewSteps
-pub mod Beside
 pub mod RenewFrames
 pub mod Many
 pub mod Counting
@@ -66,7 +65,6 @@ pub mod ArrangeFrames
 pub mod SlotsOf
 pub mod WholeRow
 pub mod InOrder
-pub mod RowAlone
 pub mod TidySlots
 pub mod Tidies
 pub mod TidySize
@@ -91,4 +89,10 @@ pub mod CircleRenames
 pub mod AnewShown
 pub mod MakesAnew
 pub mod CardsIn
-pub mod Fitted
+pub mod Anys
+pub mod Denseness
+pub mod LinkByLink
+pub mod PackedMeans
+pub mod ReadyAgain
+pub mod SeatsMoved
+pub mod Writing

@@ -3,56 +3,62 @@ use Rattle.std.proofs.Common.{◌≡◌, ℕ, ◌+◌, ◌<◌, ◌≤◌, true,
 use lib.ListN.{length-map}
 use Rattle.std.proofs.lemmas.List.{append-nil, map-append}
 use Rattle.std.proofs.lemmas.Bool.{cases_Bool, cases_lt, lt-leb, le-leb, and_parts}
+use Rattle.order.specs.declared.board.TheConstants.{LINKS}
 use Rattle.order.specs.declared.board.Link.{Link}
 use Rattle.order.specs.declared.board.Refusal.{Refusal}
 use Rattle.order.specs.Lists.{every, has}
 use Rattle.order.specs.Board.{◌⟶◌}
-use Rattle.memory.specs.Columns.{cell}
-use Rattle.row.specs.Layout.{ids}
-use Rattle.row.specs.Meaning.{used, cards, Stands}
 use Rattle.order.specs.Renaming.{named}
-use Rattle.row.specs.Laws.{SameRow}
-use Rattle.row.proofs.Present.{finds}
-use Rattle.row.proofs.Closes.{used_below}
-use Rattle.row.proofs.Depending.{depends}
 use Rattle.order.proofs.Filters.{every_more}
 use Rattle.order.proofs.RenamesLinks.{more_known}
-use Rattle.links.specs.Building.{inserted}
-use Rattle.links.specs.Frames.{Only}
-use Rattle.links.specs.Meaning.{edges, Tabled}
-use Rattle.links.proofs.Operating.{inserts}
-use Rattle.links.proofs.Bounding.{writes_only}
-use Rattle.search.specs.Layout.{fore}
+use Rattle.memory.specs.declared.column.TheConstants.{MEMORY}
+use Rattle.memory.specs.Columns.{cell}
+use Rattle.memory.specs.Footprints.{Writes}
+use Rattle.row.specs.declared.layout.TheConstants.{IDS}
+use Rattle.row.specs.Lookup.{found}
+use Rattle.row.specs.Meaning.{used, cards, IsRow}
+use Rattle.row.proofs.Named.{used_below}
+use Rattle.row.proofs.Present.{finds}
+use Rattle.links.specs.declared.layout.TheConstants.{ENTRIES}
+use Rattle.links.specs.Entries.{inserted}
+use Rattle.links.specs.Table.{columns as link_columns, edges}
+use Rattle.links.proofs.Operating.{inserts_table, inserts_edges}
+use Rattle.links.proofs.Writing.{inserted_writes}
+use Rattle.search.specs.declared.layout.TheConstants.{FORE}
 use Rattle.keeper.specs.Linking.{slots_found}
-use Rattle.keeper.proofs.TwoCards.{Seated}
-use Rattle.keeper.proofs.CardsCome.{same_names}
-use Rattle.keeper.proofs.Carrying.{links_same}
 use Rattle.batch.specs.Checking.{all_found}
 use Rattle.batch.specs.Loading.{Loaded, cards_come, put_one, put_all, links_come, loaded}
 use Rattle.batch.specs.AnewLaws.{cards_refusal, links_refusal, row_refusal}
+use Rattle.batch.proofs.Denseness.{row_kept, same_cards, same_used}
 use Rattle.batch.proofs.LookUps.{slots_there}
 use Rattle.batch.proofs.CardsIn.{Fresh, marks_same, Come, cards_in}
 
 -- the memory holds the cards and the links
 pub record Holding (m row : List ℕ) (ls : List Link) : Type 0 where
   pub fresh : Fresh m row
-  pub links_are : map (named (cell m ids)) (edges m) ≡ ls
+  pub links_are : map (named (cell m IDS)) (edges m) ≡ ls
   pub ends : every (λ l. used m l.from && used m l.to) (edges m) ≡ true
 
 pub holds_none : (m row : List ℕ) → Fresh m row → edges m ≡ [] → Holding m row []
 unfolding every
 holds_none m row F n = record {
   fresh = F;
-  links_are = ap (map (named (cell m ids))) n;
+  links_are = ap (map (named (cell m IDS))) n;
   ends = ap (every (λ (l : Link). used m l.from && used m l.to)) n;
 }
 
-seated : (m : List ℕ) → Stands m → (k : ℕ) → has (cards m) k ≡ true → (s : ℕ) × Seated m k s
-seated m S k h = let w = (finds m k S).2 h in (w.0, record { is_found = w.1; in_use = w.2; card = w.3 })
+-- the slot of a card that is there
+record Slot (m : List ℕ) (k s : ℕ) : Type 0 where
+  is_found : found m k ≡ Some s
+  in_use : used m s ≡ true
+  card : cell m IDS s ≡ k
+
+slot : (m : List ℕ) → IsRow m → (k : ℕ) → has (cards m) k ≡ true → (s : ℕ) × Slot m k s
+slot m S k h = let w = (finds m k S).2 h in (w.0, record { is_found = w.1; in_use = w.2; card = w.3 })
 
 -- one link more, between two cards that are there
-module _ (m row : List ℕ) (ls : List Link) (H : Holding m row ls) (l : Link) (a b : ℕ) (A : Seated m l.from a) (B : Seated m l.to b)
-    (few : length ls < 67584) where
+module _ (m row : List ℕ) (ls : List Link) (H : Holding m row ls) (l : Link) (a b : ℕ) (A : Slot m l.from a) (B : Slot m l.to b)
+    (few : length ls < ENTRIES) where
   abbrev F : Fresh m row
   F = H.fresh
 
@@ -63,48 +69,50 @@ module _ (m row : List ℕ) (ls : List Link) (H : Holding m row ls) (l : Link) (
   unfolding put_one slots_found
   put_is = rw (A.is_found, B.is_found)
 
-  law : Tabled m' × (edges m' ≡ edges m ++ (a ⟶ b) ∷ [])
-  law = inserts m (a ⟶ b) F.tabled (omega (arith, ap length H.links_are, length-map (edges m) (named (cell m ids))))
-      (used_below m F.stands a A.in_use) (used_below m F.stands b B.in_use)
+  more : edges m' ≡ edges m ++ (a ⟶ b) ∷ []
+  more =
+      inserts_edges m (a ⟶ b) F.is_table (omega (arith, ap length H.links_are, length-map (edges m) (named (cell m IDS))))
+      (used_below m F.is_row a A.in_use) (used_below m F.is_row b B.in_use)
 
-  only : Only m m'
-  only = (writes_only m).0 (a ⟶ b)
-
-  same : SameRow m m'
-  same = links_same m m' only
+  wrote : Writes link_columns m m'
+  wrote = inserted_writes m (a ⟶ b)
 
   known : every (λ y. used m y.from && used m y.to) (edges m ++ (a ⟶ b) ∷ []) ≡ true
   known = more_known (used m) (edges m) a b H.ends A.in_use B.in_use
 
-  links_then : map (named (cell m' ids)) (edges m') ≡ ls ++ l ∷ []
+  same_ids : cell m' IDS ≡ cell m IDS
+  same_ids t j = wrote.others IDS j refl t
+
+  links_then : map (named (cell m' IDS)) (edges m') ≡ ls ++ l ∷ []
   links_then =
-      ap (map (named (cell m' ids))) law.1 ∙ same_names (cell m ids) (cell m' ids) (used m) (λ t _. same.same_ids t) (edges m ++ (a ⟶ b) ∷ []) known
-      ∙ map-append (named (cell m ids)) (edges m) ((a ⟶ b) ∷ [])
+      ap₂ (λ (f : ℕ → ℕ) (es : List Link). map (named f) es) same_ids more ∙ map-append (named (cell m IDS)) (edges m) ((a ⟶ b) ∷ [])
       ∙ ap₂ (λ (xs : List Link) (x : Link). xs ++ x ∷ []) H.links_are (ap₂ ◌⟶◌ A.card B.card)
 
   ends_then : every (λ y. used m' y.from && used m' y.to) (edges m') ≡ true
   ends_then =
-      let u = (depends m m' same).3 in
-      ap (every (λ (y : Link). used m' y.from && used m' y.to)) law.1
+      let u = same_used link_columns m m' refl wrote in
+      ap (every (λ (y : Link). used m' y.from && used m' y.to)) more
       ∙ every_more (λ y. used m y.from && used m y.to) (λ y. used m' y.from && used m' y.to) (λ y t. rw (u y.from, u y.to) t) _ known
 
-  pub put_more : Holding (put_one m l) row (ls ++ l ∷ [])
-  put_more = rw put_is (record {
-    fresh = record {
-      long = only.as_long ∙ F.long;
-      stands = (depends m m' same).0 F.stands;
-      tabled = law.0;
-      summed = (marks_same m m' only.as_long (λ i. only.others fore i refl) F.summed F.none).0;
-      none = (marks_same m m' only.as_long (λ i. only.others fore i refl) F.summed F.none).1;
-      cards_are = (depends m m' same).1 ∙ F.cards_are;
-    };
-    links_are = links_then;
-    ends = ends_then;
-  })
+  put_more : Holding (put_one m l) row (ls ++ l ∷ [])
+  put_more =
+      let k = marks_same m m' wrote.as_long (λ i. wrote.others FORE.column i refl) F.summed F.none in
+      rw put_is (record {
+        fresh = record {
+          long = wrote.as_long ∙ F.long;
+          is_row = row_kept link_columns m m' refl wrote F.is_row;
+          is_table = inserts_table m (a ⟶ b) F.is_table;
+          summed = k.0;
+          none = k.1;
+          cards_are = same_cards link_columns m m' refl wrote ∙ F.cards_are;
+        };
+        links_are = links_then;
+        ends = ends_then;
+      })
 
 -- all of them
 put_in_all : (ls done : List Link) (m row : List ℕ) → Holding m row done → every (λ l. has row l.from && has row l.to) ls ≡ true →
-    length done + length ls ≤ 65536 → Holding (put_all m ls) row (done ++ ls)
+    length done + length ls ≤ LINKS → Holding (put_all m ls) row (done ++ ls)
 unfolding put_all every
 put_in_all [] done m row H e h = subst (Holding m row) (sym (append-nil done)) H
 put_in_all (l ∷ ls) done m row H e h =
@@ -112,8 +120,8 @@ put_in_all (l ∷ ls) done m row H e h =
     let q = and_parts (has row l.from) (has row l.to) p.0 in
     let F = H.fresh in
     let there : (k : ℕ) → has row k ≡ true → has (cards m) k ≡ true = λ k t. ap (λ (ks : List ℕ). has ks k) F.cards_are ∙ t in
-    let a = seated m F.stands l.from (there l.from q.0) in
-    let b = seated m F.stands l.to (there l.to q.1) in
+    let a = slot m F.is_row l.from (there l.from q.0) in
+    let b = slot m F.is_row l.to (there l.to q.1) in
     let w = put_more m row done H l a.0 b.0 a.1 b.1 (omega arith) in
     subst (Holding (put_all (put_one m l) ls) row) (append_assoc done (l ∷ []) ls)
     (put_in_all ls (done ++ l ∷ []) (put_one m l) row w p.1 (omega (arith, length-append done (l ∷ []))))
@@ -123,7 +131,7 @@ all_found_is : (m row : List ℕ) → Fresh m row → (ls : List Link) → all_f
 unfolding every
 all_found_is m row F [] = refl
 all_found_is m row F (l ∷ ls) =
-    ap₂ ◌&&◌ (slots_there m F.stands l ∙ ap (λ (ks : List ℕ). has ks l.from && has ks l.to) F.cards_are) (all_found_is m row F ls)
+    ap₂ ◌&&◌ (slots_there m F.is_row l ∙ ap (λ (ks : List ℕ). has ks l.from && has ks l.to) F.cards_are) (all_found_is m row F ls)
 
 -- the links come: refused by the first reason, or held
 links_in : (m row : List ℕ) (ls : List Link) → Fresh m row → edges m ≡ [] →
@@ -132,9 +140,9 @@ unfolding links_come links_refusal
 links_in m row ls F n =
     let e = all_found_is m row F ls in
     elim (cases_Bool (every (λ l. has row l.from && has row l.to) ls)) [
-      | inl t ↦ elim (cases_lt 65536 (length ls)) [
-        | inl h ↦ rw (e, t, lt-leb (length ls) 65536 h) (refl, λ z. absurd (let y : ◌≡◌ {A = ℕ} 0 1 = cc in omega arith))
-        | inr h ↦ rw (e, t, le-leb (length ls) 65536 h) (refl, λ z. put_in_all ls [] m row (holds_none m row F n) t (omega arith))
+      | inl t ↦ elim (cases_lt LINKS (length ls)) [
+        | inl h ↦ rw (e, t, lt-leb (length ls) LINKS h) (refl, λ z. absurd (let y : ◌≡◌ {A = ℕ} 0 1 = cc in omega arith))
+        | inr h ↦ rw (e, t, le-leb (length ls) LINKS h) (refl, λ z. put_in_all ls [] m row (holds_none m row F n) t (omega arith))
       ]
       | inr t ↦ rw (e, t) (refl, λ z. absurd (let y : ◌≡◌ {A = ℕ} 0 1 = cc in omega arith))
     ]
@@ -150,5 +158,5 @@ fills m row ls C None e =
     rw (C.refused_so, e) (links_in (cards_come m row).memory row ls w.0 w.1)
 fills m row ls C (Some why) e = rw (C.refused_so, e) (refl, λ z. absurd (let y : ◌≡◌ {A = ℕ} 0 1 = cc in omega arith))
 
-pub filled : (row : List ℕ) (ls : List Link) → Filled row ls (loaded (replicate 524288 0) row ls)
-filled row ls = fills (replicate 524288 0) row ls (cards_in row) (cards_refusal [] row) refl
+pub filled : (row : List ℕ) (ls : List Link) → Filled row ls (loaded (replicate MEMORY 0) row ls)
+filled row ls = fills (replicate MEMORY 0) row ls (cards_in row) (cards_refusal [] row) refl

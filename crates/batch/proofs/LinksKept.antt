@@ -1,6 +1,8 @@
 -- Several links said at once are done or refused rightly.
 use Rattle.std.proofs.Common.{◌≡◌, ℕ, ◌+◌, ◌<◌, ◌≤◌, true, false, leb, ◌≢◌, List, ◌++◌, length, take, Some, None, Option, sym, refl, ap, ◌∙◌, subst, inl, inr, arith, length-append}
 use Rattle.std.proofs.lemmas.Bool.{cases_Bool, cases_lt, both_ways, le-leb, lt-leb, leb-true}
+use Rattle.memory.specs.declared.column.TheConstants.{MEMORY}
+use Rattle.order.specs.declared.board.TheConstants.{LINKS}
 use Rattle.order.specs.declared.board.Link.{Link}
 use Rattle.order.specs.declared.board.Refusal.{Refusal}
 use Rattle.order.specs.declared.board.Refusal.TheVariants.{Missing, Exists, Cycle, Full}
@@ -8,7 +10,9 @@ use Rattle.order.specs.Lists.{every}
 use Rattle.order.specs.Board.{Board, keeps, fine}
 use Rattle.command.specs.Commands.{told_rows}
 use Rattle.order.proofs.Climbs.{fine_parts}
-use Rattle.links.specs.Layout.{live}
+use Rattle.links.specs.declared.layout.TheConstants.{ENTRIES}
+use Rattle.links.specs.Entries.{live}
+use Rattle.row.specs.Moves.{packed}
 use Rattle.links.proofs.Operating.{counts}
 use Rattle.keeper.specs.Engine.{Ran}
 use Rattle.keeper.specs.Answers.{Answer, quiet, refuses, leaves_pending}
@@ -16,10 +20,13 @@ use Rattle.keeper.specs.Sister.{within}
 use Rattle.keeper.specs.Meaning.{Means}
 use Rattle.keeper.proofs.Knowing.{names}
 use Rattle.keeper.proofs.Saying.{missing_is_not, exists_is_not, full_is_not}
-use Rattle.keeper.proofs.Carrying.{noted}
-use Rattle.keeper.proofs.Noting.{settles}
+use Rattle.memory.proofs.Footprints.{same}
+use Rattle.keeper.specs.Columns.{columns}
+use Rattle.keeper.proofs.Carrying.{noted, settles}
 use Rattle.keeper.proofs.ToldRuns.{from_first}
+use Rattle.batch.specs.declared.layout.TheConstants.{BATCH}
 use Rattle.batch.specs.declared.seating.Span.{Span}
+use Rattle.batch.specs.Dense.{Dense}
 use Rattle.batch.specs.Several.{all_there, with_links, said_before, closes, several_refusal, Becomes, past_named}
 use Rattle.batch.specs.SeveralLaws.{Between}
 use Rattle.batch.specs.Checking.{span}
@@ -34,6 +41,7 @@ use Rattle.batch.specs.Own.{answer, own}
 use Rattle.batch.proofs.CardsThere.{finds_all}
 use Rattle.batch.proofs.Repeating.{repeats}
 use Rattle.batch.proofs.Spanning.{span_moves}
+use Rattle.batch.proofs.PackedMeans.{packed_long, packed_means, packed_row}
 use Rattle.batch.proofs.SavedMeans.{tries_saved}
 use Rattle.batch.proofs.Undoing.{undoes_all, undoes_stopped, undoes_none}
 use Rattle.batch.proofs.SeveralBetween.{several_between}
@@ -65,7 +73,7 @@ settled r ls row f t b = record {
   alone = λ l e. ((several_single r l).1 row (subst (λ (xs : List Link). Becomes r xs row) e b)).0;
 }
 
-module _ (m : List ℕ) (r : Board) (ls : List Link) (long : length m ≡ 524288) (K : Keeps m r) (small : every small_link ls ≡ true) where
+module _ (m : List ℕ) (r : Board) (ls : List Link) (long : length m ≡ MEMORY) (K : Keeps m r) (small : every small_link ls ≡ true) where
   M : Means m r
   M = K.means
 
@@ -80,18 +88,31 @@ module _ (m : List ℕ) (r : Board) (ls : List Link) (long : length m ≡ 524288
       refused_so m r ls _ (run_is _ e ∙ first_refused m w) w z (refl, refl, (λ y. absurd (n y)), λ _. refl) K
 
   -- tried
-  module _ (few : leb (length ls) 256 ≡ true) (there : all_there r ls ≡ true) (fresh : said_before r ls ≡ false) where
+  module _ (few : leb (length ls) BATCH ≡ true) (there : all_there r ls ≡ true) (fresh : said_before r ls ≡ false) where
+    -- from the row packed on
+    abbrev p : List ℕ
+    p = packed m
+
+    P : Means p r
+    P = packed_means m r M
+
+    D : Dense p
+    D = packed_row m r M
+
+    long_p : length p ≡ MEMORY
+    long_p = packed_long m ∙ long
+
     abbrev o : Option Span
-    o = span m ls
+    o = span p ls
 
     abbrev m₀ : List ℕ
-    m₀ = part_aside m o
+    m₀ = part_aside p o
 
     abbrev t : Tried
     t = tried m₀ ls 0
 
-    room : length r.links + length ls ≤ 67584
-    room = omega (arith, K.few, leb-true (length ls) 256 few)
+    room : length r.links + length ls ≤ ENTRIES
+    room = omega (arith, K.few, leb-true (length ls) BATCH few)
 
     said_is : said_several m ls ≡ by_trial t ls o
     unfolding said_several rearranged
@@ -99,41 +120,41 @@ module _ (m : List ℕ) (r : Board) (ls : List Link) (long : length m ≡ 524288
 
     -- the part of the row, if it has to change
     kept_none : o ≡ None → keeps r.row (r.links ++ ls) ≡ true
-    kept_none e = let b = rw e at (span_moves m r ls M there).0 in grind arith
+    kept_none e = let b = rw e at (span_moves p r ls P D there).0 in grind arith
 
     kept_not : (s : Span) → o ≡ Some s → keeps r.row (r.links ++ ls) ≡ false
-    kept_not s e = let b = rw e at (span_moves m r ls M there).0 in grind arith
+    kept_not s e = let b = rw e at (span_moves p r ls P D there).0 in grind arith
 
     part : (s : Span) → o ≡ Some s → Names r ls s
-    part = (span_moves m r ls M there).1
+    part = (span_moves p r ls P D there).1
 
     covers : (s : Span) → o ≡ Some s → Covers s r ls
     covers s e =
-        let p = part s e in record { lower = omega (arith, p.0); higher = omega (arith, p.1); within = omega (arith, p.1, p.3) }
+        let w = part s e in record { lower = omega (arith, w.0); higher = omega (arith, w.1); within = omega (arith, w.1, w.3) }
 
-    tried_so : (o₁ : Option Span) → (closes r ls ≡ false → AllIn (part_aside m o₁) r ls) × (closes r ls ≡ true → Stopped (part_aside m o₁) r ls)
+    tried_so : (o₁ : Option Span) → (closes r ls ≡ false → AllIn (part_aside p o₁) r ls) × (closes r ls ≡ true → Stopped (part_aside p o₁) r ls)
     unfolding part_aside
-    tried_so None = tries m r ls M small there fresh room
-    tried_so (Some s) = tries_saved m r ls _ _ M small there fresh room
+    tried_so None = tries p r ls P small there fresh room
+    tried_so (Some s) = tries_saved p r ls _ _ P small there fresh room
 
     either : (closes r ls ≡ false → AllIn m₀ r ls) × (closes r ls ≡ true → Stopped m₀ r ls)
     either = tried_so o
 
     -- links that were put in are taken out again
-    undone_stopped : (o₁ : Option Span) → o ≡ o₁ → closes r ls ≡ true → Stopped (part_aside m o₁) r ls →
-        Means (undone (tried (part_aside m o₁) ls 0).memory (take (tried (part_aside m o₁) ls 0).count ls) o₁) r
+    undone_stopped : (o₁ : Option Span) → o ≡ o₁ → closes r ls ≡ true → Stopped (part_aside p o₁) r ls →
+        Means (undone (tried (part_aside p o₁) ls 0).memory (take (tried (part_aside p o₁) ls 0).count ls) o₁) r
     unfolding part_aside
     undone_stopped None e round S = absurd ((several_round r ls (means_fine m r M) there round).1 r.row (kept_none e))
-    undone_stopped (Some s) e round S = undoes_stopped m r ls s M small there long (covers s e) S
+    undone_stopped (Some s) e round S = undoes_stopped p r ls s P D small there long_p (covers s e) S
 
     means_more : (m₁ : List ℕ) → keeps r.row (r.links ++ ls) ≡ true → (A : AllIn m₁ r ls) → Means (tried m₁ ls 0).memory (with_links r ls)
     means_more m₁ k A =
         subst (λ (xs : List ℕ). Means (tried m₁ ls 0).memory (record { row = xs; links = r.links ++ ls })) (several_kept r ls A.row k A.becomes) A.means
 
-    undone_all : (o₁ : Option Span) → o ≡ o₁ → AllIn (part_aside m o₁) r ls → Means (undone (tried (part_aside m o₁) ls 0).memory ls o₁) r
+    undone_all : (o₁ : Option Span) → o ≡ o₁ → AllIn (part_aside p o₁) r ls → Means (undone (tried (part_aside p o₁) ls 0).memory ls o₁) r
     unfolding part_aside
-    undone_all None e A = undoes_none _ r ls None small (λ s z. absurd (cc)) (means_more m (kept_none e) A)
-    undone_all (Some s) e A = undoes_all m r ls s M small there long (covers s e) A
+    undone_all None e A = undoes_none _ r ls None small (λ s z. absurd (cc)) (means_more p (kept_none e) A)
+    undone_all (Some s) e A = undoes_all p r ls s P D small there long_p (covers s e) A
 
     -- links that go round
     module _ (round : closes r ls ≡ true) where
@@ -143,17 +164,17 @@ module _ (m : List ℕ) (r : Board) (ls : List Link) (long : length m ≡ 524288
       abbrev k : List ℕ
       k = undone t.memory (take t.count ls) o
 
-      same : Means k r
-      same = undone_stopped o refl round S
+      board_same : Means k r
+      board_same = undone_stopped o refl round S
 
       shown : StepKept own 3 m r (several ls)
       unfolding several_refusal Refused
       shown =
           let e = said_is ∙ trial_round t ls o S.way S.is_way in
-          refused_so m r ls _ (run_is _ e ∙ first_round k same.ready S.way) Cycle (rw (few, there, fresh, round) refl)
+          refused_so m r ls _ (run_is _ e ∙ first_round k board_same.long S.way) Cycle (rw (few, there, fresh, round) refl)
           (refl, refl, (λ _. (S.way, refl, S.round)), λ n. absurd (n refl))
           (record {
-            means = subst (Means (leaves_pending (leaves_pending k 2) 0)) (sym same.is) (settles k (leaves_pending k 2) same.ready same.single (noted k 4 2 (omega arith)));
+            means = subst (Means (leaves_pending (leaves_pending k 2) 0)) (sym board_same.is) (settles k (leaves_pending k 2) board_same.ready board_same.single board_same.long (noted k k 2 (omega arith) (same columns k)));
             few = K.few;
           })
 
@@ -171,26 +192,26 @@ module _ (m : List ℕ) (r : Board) (ls : List Link) (long : length m ≡ 524288
       counted : live t.memory ≡ length r.links + length ls
       counted =
           let N = A.means in
-          (counts t.memory N.ready.tabled).0 ∙ sym (names t.memory N.ready).length_links_named
+          counts t.memory N.ready.is_table ∙ sym (names t.memory N.ready).length_links_named
           ∙ ap (λ (b : Board). length b.links) (sym N.is) ∙ length-append r.links ls
 
       abbrev brings : said_several m ls ≡ brought t.memory ls o
       brings = said_is ∙ trial_done t ls o A.no_way
 
-      too_many : 65536 < length r.links + length ls → StepKept own 3 m r (several ls)
+      too_many : LINKS < length r.links + length ls → StepKept own 3 m r (several ls)
       unfolding several_refusal Refused
       too_many h =
           let e = brings ∙ brought_full t.memory ls o (omega (arith, counted)) in
           refused_so m r ls _ (run_is _ e ∙ first_refused (undone t.memory ls o) Full) Full
-          (rw (few, there, fresh, flat, lt-leb _ 65536 h) refl)
+          (rw (few, there, fresh, flat, lt-leb _ LINKS h) refl)
           (refl, refl, (λ y. absurd (full_is_not y)), λ _. refl) (record { means = undone_all o refl A; few = K.few })
 
-      module _ (h : length r.links + length ls ≤ 65536) where
+      module _ (h : length r.links + length ls ≤ LINKS) where
         allowed : several_refusal r ls ≡ None
         unfolding several_refusal
-        allowed = rw (few, there, fresh, flat, le-leb _ 65536 h) refl
+        allowed = rw (few, there, fresh, flat, le-leb _ LINKS h) refl
 
-        fits_in : length (r.links ++ ls) ≤ 65536
+        fits_in : length (r.links ++ ls) ≤ LINKS
         fits_in = omega (arith, length-append r.links ls)
 
         unmoved : o ≡ None → StepKept own 3 m r (several ls)
@@ -209,17 +230,17 @@ module _ (m : List ℕ) (r : Board) (ls : List Link) (long : length m ≡ 524288
 
         told : (s : Span) → o ≡ Some s → ToldSo t.memory (record { row = row; links = r.links ++ ls }) s
         told s b =
-            let p = part s b in
-            span_told t.memory (record { row = row; links = r.links ++ ls }) A.means s (omega (arith, p.0, p.1, p.2))
-            (omega (arith, p.1, p.3, B.as_long))
+            let w = part s b in
+            span_told t.memory (record { row = row; links = r.links ++ ls }) A.means s (omega (arith, w.0, w.1, w.2))
+            (omega (arith, w.1, w.3, B.as_long))
 
         moved : (s : Span) → o ≡ Some s → StepKept own 3 m r (several ls)
         unfolding Done
         moved s b =
-            let p = part s b in
+            let w = part s b in
             let e = brings ∙ ap (brought t.memory ls) b ∙ brought_told t.memory ls s (omega (arith, counted)) in
             let T = told s b in
-            let n = T.makes r.row (rw (p.0, p.1) (record { long = sym B.as_long; front = sym B.front; rest = sym B.rest })) in
+            let n = T.makes r.row (rw (w.0, w.1) (record { long = sym B.as_long; front = sym B.front; rest = sym B.rest })) in
             done_so m r ls _ (run_is _ e ∙ T.run) allowed (
               refl,
               refl,
@@ -227,8 +248,8 @@ module _ (m : List ℕ) (r : Board) (ls : List Link) (long : length m ≡ 524288
               rw n (fine_parts _ B.fine_so).kept,
               (
                 (λ k. absurd (both_ways _ (kept_not s b) k)),
-                subst (λ (i : ℕ). every (within i (past_named r ls)) T.parts ≡ true) p.0
-                    (subst (λ (j : ℕ). every (within s.low j) T.parts ≡ true) p.1 T.inside),
+                subst (λ (i : ℕ). every (within i (past_named r ls)) T.parts ≡ true) w.0
+                    (subst (λ (j : ℕ). every (within s.low j) T.parts ≡ true) w.1 T.inside),
               ),
             )
             (record { means = rw n T.means; few = fits_in })
@@ -238,14 +259,14 @@ module _ (m : List ℕ) (r : Board) (ls : List Link) (long : length m ≡ 524288
         by_part (Some s) e = moved s e
 
       all_in : StepKept own 3 m r (several ls)
-      all_in = elim (cases_lt 65536 (length r.links + length ls)) [
+      all_in = elim (cases_lt LINKS (length r.links + length ls)) [
         | inl h ↦ too_many h
         | inr h ↦ by_part h o refl
       ]
 
   pub several_links_kept : StepKept own 3 m r (several ls)
   unfolding several_refusal said_several
-  several_links_kept = elim (cases_Bool (leb (length ls) 256)) [
+  several_links_kept = elim (cases_Bool (leb (length ls) BATCH)) [
     | inr few ↦ at_once Full full_is_not (rw few refl) (rw few refl)
     | inl few ↦ elim (cases_Bool (all_there r ls)) [
       | inr there ↦ at_once Missing missing_is_not (rw (few, there) refl) (rw (few, finds_all m r ls M ∙ there) refl)

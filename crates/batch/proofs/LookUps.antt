@@ -1,22 +1,26 @@
--- Where a card is found depends on the columns of the look-up alone; and it is found just if it is there.
-use Rattle.std.proofs.Common.{◌≡◌, ℕ, zero, suc, ◌+◌, ◌&&◌, List, is_some, Some, None, Option, sym, refl, ap, ◌∙◌, ap₂, inl, inr}
+-- Where a card is found depends on the columns of the look-up alone; what is found is a slot; and it is found just if it is there.
+use Rattle.std.proofs.Common.{◌≡◌, ℕ, zero, suc, ◌+◌, ◌<◌, ◌&&◌, List, is_some, Some, None, Option, sym, refl, ap, ◌∙◌, ap₂, inl, inr, arith}
 use Rattle.std.proofs.lemmas.Bool.{cases_Bool}
+use Rattle.order.specs.declared.board.TheConstants.{CARDS}
 use Rattle.order.specs.declared.board.Link.{Link}
 use Rattle.order.specs.Lists.{has}
 use Rattle.order.specs.Board.{◌⟶◌}
-use Rattle.row.specs.Meaning.{cards, Stands}
-use Rattle.row.proofs.Present.{finds}
-use Rattle.keeper.specs.Linking.{slots_found}
 use Rattle.memory.specs.Columns.{cell}
-use Rattle.row.specs.Layout.{ids, chain}
-use Rattle.row.specs.Lookup.{bucket, followed, sought, found}
-use Rattle.memory.specs.Options.{given}
+use Rattle.memory.specs.Options.{given, Within}
+use Rattle.memory.proofs.Options.{given_holds}
+use Rattle.row.specs.declared.layout.TheConstants.{HEADS, IDS, CHAIN}
+use Rattle.row.specs.Lookup.{EntryBelow, bucket, followed, sought, found}
+use Rattle.row.specs.Meaning.{cards, IsRow}
+use Rattle.row.proofs.Present.{finds}
+use Rattle.row.proofs.Seeking.{sought_low}
+use Rattle.keeper.specs.Linking.{slots_found}
+use Rattle.batch.specs.Arranging.{slot_of}
 
 given_same : {X Y : Type 0} (o : Option X) (z : Y) (f g : X → Y) → ((x : X) → f x ≡ g x) → given o z f ≡ given o z g
 given_same None z f g h = refl
 given_same (Some x) z f g h = h x
 
-module _ (m m' : List ℕ) (i : (j : ℕ) → cell m' ids j ≡ cell m ids j) (x : (j : ℕ) → cell m' chain j ≡ cell m chain j) where
+module _ (m m' : List ℕ) (i : (j : ℕ) → cell m' IDS j ≡ cell m IDS j) (x : (j : ℕ) → cell m' CHAIN j ≡ cell m CHAIN j) where
   followed_alike : (p : ℕ) → followed m' p ≡ followed m p
   unfolding followed
   followed_alike p = rw (x p)
@@ -25,14 +29,22 @@ module _ (m m' : List ℕ) (i : (j : ℕ) → cell m' ids j ≡ cell m ids j) (x
   unfolding sought
   sought_alike zero p k = refl
   sought_alike (suc f) p k =
-      rw (followed_alike p) (given_same (followed m p) None _ _ (λ s. rw (i s, sought_alike f (8192 + s) k)))
+      rw (followed_alike p) (given_same (followed m p) None _ _ (λ s. rw (i s, sought_alike f (HEADS + s) k)))
 
   pub found_alike : (k : ℕ) → found m' k ≡ found m k
   unfolding found
-  found_alike k = rw (sought_alike 8192 (bucket k) k)
+  found_alike k = rw (sought_alike CARDS (bucket k) k)
+
+-- what is found is a slot
+pub found_below : (m : List ℕ) (k : ℕ) → slot_of m k < CARDS
+unfolding found
+found_below m k =
+    given_holds (Within CARDS) (λ (s : ℕ). s < CARDS) (found m k) 0 (λ s. s)
+    (given_holds EntryBelow (Within CARDS) (sought CARDS m (bucket k) k) None (λ e. Some e.number) (sought_low CARDS m (bucket k) k) tt (λ e b. b))
+    (omega arith) (λ s b. b)
 
 -- whether the cards of a link are found
-found_there : (m : List ℕ) → Stands m → (k : ℕ) → is_some (found m k) ≡ has (cards m) k
+found_there : (m : List ℕ) → IsRow m → (k : ℕ) → is_some (found m k) ≡ has (cards m) k
 found_there m S k = elim (cases_Bool (has (cards m) k)) [
   | inl h ↦ ap is_some ((finds m k S).2 h).1 ∙ sym h
   | inr h ↦ ap is_some ((finds m k S).1 h) ∙ sym h
@@ -43,6 +55,6 @@ both_some None p = refl
 both_some (Some a) None = refl
 both_some (Some a) (Some b) = refl
 
-pub slots_there : (m : List ℕ) → Stands m → (l : Link) → is_some (slots_found m l) ≡ (has (cards m) l.from && has (cards m) l.to)
+pub slots_there : (m : List ℕ) → IsRow m → (l : Link) → is_some (slots_found m l) ≡ (has (cards m) l.from && has (cards m) l.to)
 unfolding slots_found
 slots_there m S l = both_some (found m l.from) (found m l.to) ∙ ap₂ ◌&&◌ (found_there m S l.from) (found_there m S l.to)

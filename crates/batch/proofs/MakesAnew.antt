@@ -3,6 +3,8 @@ use Rattle.std.proofs.Common.{◌≡◌, ℕ, ◌≤◌, true, List, ◌++◌, l
 use Rattle.std.proofs.lemmas.Bool.{cases_eq}
 use Rattle.order.specs.declared.board.Link.{Link}
 use Rattle.order.specs.declared.board.Refusal.{Refusal}
+use Rattle.memory.specs.declared.column.TheConstants.{MEMORY}
+use Rattle.keeper.specs.declared.layout.TheConstants.{OUTPUT}
 use Rattle.keeper.specs.declared.event.Reason.TheVariants.{Board}
 use Rattle.batch.specs.declared.making_anew.Anew.TheVariants.{Row, Circle}
 use Rattle.batch.specs.Several.{circle}
@@ -18,9 +20,9 @@ use Rattle.batch.proofs.AnewShown.{row_shown, circle_shown}
 pub makes_unfit : MakesUnfit
 makes_unfit m row ls out h = anew_unfit m row ls out h
 
-module _ (m row : List ℕ) (ls : List Link) (out : List ℕ) (long : length m ≡ 524288) (room : 8192 ≤ length out) where
+module _ (m row : List ℕ) (ls : List Link) (out : List ℕ) (long : length m ≡ MEMORY) (room : OUTPUT ≤ length out) where
   abbrev x : Loaded
-  x = loaded (replicate 524288 0) row ls
+  x = loaded (replicate MEMORY 0) row ls
 
   is_made : made_anew m row ls out ≡ made x out
   is_made = anew_fits m row ls out long room ∙ ap (λ (k : ℕ). made (loaded (replicate k 0) row ls) out) long

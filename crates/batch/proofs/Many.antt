@@ -1,18 +1,10 @@
--- How many of a list pass a test; and so of the links of a table.
-use Rattle.std.proofs.Common.{◌≡◌, ℕ, zero, suc, ◌+◌, ◌<◌, ◌≤◌, Bool, true, false, cond, not, ◌&&◌, eqb, List, [], ◌∷◌, ◌++◌, length, sym, refl, ap, ◌∙◌, ap₂, inl, inr, arith, length-append}
-use Rattle.std.proofs.lemmas.Bool.{cases_Bool, cases_eq, and_parts, or_left, or_right}
+-- How many of a list pass a test.
+use Rattle.std.proofs.Common.{◌≡◌, ℕ, suc, ◌+◌, ◌≤◌, Bool, true, cond, not, ◌&&◌, eqb, List, [], ◌∷◌, ◌++◌, map, reverse, length, sym, refl, ap, ◌∙◌, ap₂, inl, inr, arith, length-append}
+use mathlib.Core.List.{reverse-cons}
+use Rattle.std.proofs.lemmas.Bool.{cases_Bool, and_parts}
 use Rattle.std.proofs.lemmas.Bool.Decides.{nat_tests}
-use Rattle.order.specs.declared.board.Link.{Link}
-use Rattle.order.specs.Lists.{any, every, filter}
-use Rattle.memory.specs.Columns.{cell}
-use Rattle.order.proofs.Filters.{filter_append}
-use Rattle.links.specs.declared.chain.Chain.TheVariants.{Out}
-use Rattle.links.specs.Layout.{froms}
-use Rattle.links.specs.Chains.{dead}
-use Rattle.links.specs.Entries.{link_at}
-use Rattle.links.specs.Skips.{put, living}
-use Rattle.links.specs.Meaning.{edges_of, lives}
-use Rattle.links.proofs.Edging.{append_none, any_append}
+use Rattle.order.specs.Lists.{any, every, filter, has}
+use Rattle.order.proofs.Filters.{filter_append, every_append}
 
 abbrev pub many : {A : Type 0} → (A → Bool) → List A → ℕ
 many f xs = length (filter f xs)
@@ -39,11 +31,6 @@ unfolding filter any
 many_any f [] = refl
 many_any f (x ∷ xs) = let ih = many_any f xs in grind (arith, nat_tests)
 
-pub many_all : {A : Type 0} (xs : List A) → many (λ x. true) xs ≡ length xs
-unfolding filter
-many_all [] = refl
-many_all (x ∷ xs) = ap suc (many_all xs)
-
 -- the tests g and h divide what passes f
 pub many_parts : {A : Type 0} (f g h : A → Bool) → ((x : A) → one (f x) ≡ one (g x) + one (h x)) → (xs : List A) → many f xs ≡ many g xs + many h xs
 unfolding filter
@@ -61,57 +48,40 @@ many_within f g q e (x ∷ xs) h =
     let p = and_parts (q x) (every q xs) h in
     many_cons f x xs ∙ ap₂ (λ (t : Bool) (k : ℕ). one t + k) (e x p.0) (many_within f g q e xs p.1) ∙ sym (many_cons g x xs)
 
--- a table whose links are as many as its entries has no dead one
-module _ (d : ℕ → Bool) (g : ℕ → Link) where
-  edges_next : (e : ℕ) → length (edges_of d g (suc e)) ≡ length (edges_of d g e) + one (not (d e))
-  unfolding edges_of
-  edges_next e =
-      length-append (edges_of d g e) (cond (d e) [] (g e ∷ []))
-      ∙ ap (λ (k : ℕ). length (edges_of d g e) + k) (elim (cases_Bool (d e)) [ inl t ↦ rw t refl | inr t ↦ rw t refl ])
+-- of a list turned round, of a list of values, and of what passes another test
+pub many_reverse : {A : Type 0} (f : A → Bool) (xs : List A) → many f (reverse xs) ≡ many f xs
+many_reverse f [] = refl
+many_reverse f (x ∷ xs) =
+    let ih = many_reverse f xs in
+    ap (many f) (reverse-cons x xs) ∙ many_push f (reverse xs) x ∙ (omega (arith, many_cons f x xs))
 
-  pub edges_few : (e : ℕ) → length (edges_of d g e) ≤ e
-  unfolding edges_of
-  edges_few zero = omega arith
-  edges_few (suc e) = let ih = edges_few e in let s = edges_next e in grind (arith, nat_tests)
+pub many_map : {A B : Type 0} (f : B → Bool) (g : A → B) (xs : List A) → many f (map g xs) ≡ many (λ x. f (g x)) xs
+unfolding filter
+many_map f g [] = refl
+many_map f g (x ∷ xs) = let ih = many_map f g xs in omega (arith, many_cons f (g x) (map g xs), many_cons (λ y. f (g y)) x xs)
 
-  pub none_dead : (e : ℕ) → length (edges_of d g e) ≡ e → (l : ℕ) → l < e → d l ≡ false
-  none_dead zero h l i = absurd (omega arith)
-  none_dead (suc e) h l i =
-      let s = edges_next e in
-      let w = edges_few e in
-      elim (cases_Bool (d e)) [
-        | inl t ↦ absurd (let z = rw t at s in omega arith)
-        | inr t ↦ elim (cases_eq l e) [
-          | inl q ↦ ap d q ∙ t
-          | inr q ↦ none_dead e (let z = rw t at s in omega arith) l (omega arith)
-        ]
-      ]
-
-  -- an entry that lives holds a link of the table
-  pub link_there : (f : Link → Bool) (e l : ℕ) → l < e → d l ≡ false → f (g l) ≡ true → any f (edges_of d g e) ≡ true
-  unfolding edges_of any
-  link_there f zero l b h t = absurd (omega arith)
-  link_there f (suc e) l b h t =
-      let both = any_append f (edges_of d g e) (cond (d e) [] (g e ∷ [])) in
-      elim (cases_eq l e) [
-        | inl q ↦ both ∙ or_right (any f (edges_of d g e)) _ (rw (ap d (sym q) ∙ h, ap (λ (j : ℕ). f (g j)) (sym q) ∙ t) refl)
-        | inr q ↦ both ∙ or_left (any f (edges_of d g e)) _ (link_there f e l (omega arith) h t)
-      ]
-
--- the living links of a chain, and those of the table
-pub lives_many : (m : List ℕ) (s : ℕ) (h : Link → Bool) (e : ℕ) →
-    many (λ l. h (link_at m l)) (lives m Out s e) ≡ many (λ y. eqb y.from s && h y) (edges_of (dead m) (link_at m) e)
-unfolding living put edges_of filter
-lives_many m s h zero = refl
-lives_many m s h (suc e) =
-    let ih = lives_many m s h e in
-    let own = eqb (cell m froms e) s in
-    elim (cases_Bool (dead m e)) [
-      | inl t ↦ elim (cases_Bool own) [ inl k ↦ rw (t, k, append_none (edges_of (dead m) (link_at m) e)) ih | inr k ↦ rw (t, k, append_none (edges_of (dead m) (link_at m) e)) ih ]
-      | inr t ↦
-          let push = many_push (λ (y : Link). eqb y.from s && h y) (edges_of (dead m) (link_at m) e) (link_at m e) in
-          elim (cases_Bool own) [
-            | inl k ↦ rw (t, k) (many_cons (λ l. h (link_at m l)) e (lives m Out s e) ∙ rw k (omega arith) ∙ sym push)
-            | inr k ↦ rw (t, k) (ih ∙ rw k (omega arith) ∙ sym push)
-          ]
+pub many_filter : {A : Type 0} (f g : A → Bool) (xs : List A) → many f (filter g xs) ≡ many (λ x. g x && f x) xs
+unfolding filter
+many_filter f g [] = refl
+many_filter f g (x ∷ xs) =
+    let ih = many_filter f g xs in
+    elim (cases_Bool (g x)) [
+      | inl e ↦ elim (cases_Bool (f x)) [ inl k ↦ rw (e, k) (ap suc ih) | inr k ↦ rw (e, k) ih ]
+      | inr e ↦ rw e ih
     ]
+
+-- what is so of each, is so of each of a list turned round, and of values
+pub every_reverse : {A : Type 0} (f : A → Bool) (xs : List A) → every f (reverse xs) ≡ every f xs
+unfolding every
+every_reverse f [] = refl
+every_reverse f (x ∷ xs) =
+    let ih = every_reverse f xs in
+    ap (every f) (reverse-cons x xs) ∙ every_append f (reverse xs) (x ∷ []) ∙ (grind arith)
+
+pub every_map : {A B : Type 0} (f : B → Bool) (g : A → B) (xs : List A) → every f (map g xs) ≡ every (λ x. f (g x)) xs
+unfolding every
+every_map f g [] = refl
+every_map f g (x ∷ xs) = ap (λ (b : Bool). f (g x) && b) (every_map f g xs)
+
+pub has_reverse : (xs : List ℕ) (k : ℕ) → has (reverse xs) k ≡ has xs k
+has_reverse xs k = many_any (eqb k) (reverse xs) ∙ ap (λ (n : ℕ). not (eqb n 0)) (many_reverse (eqb k) xs) ∙ sym (many_any (eqb k) xs)

@@ -1,93 +1,110 @@
--- For each slot that a link goes into from one that hasn't come, such a one is noted.
-use Rattle.std.proofs.Common.{◌≡◌, ℕ, zero, suc, ◌+◌, ◌<◌, ◌≤◌, true, cond, List, length, sym, refl, ap, ◌∙◌, inl, inr, arith}
-use Rattle.std.proofs.lemmas.Bool.{cases_Bool, cases_eq}
+-- For each slot that a link goes into from one that hasn't come, such a one is noted. A link is a pair of slots in one number.
+use Rattle.std.proofs.Common.{◌≡◌, ℕ, ◌+◌, ◌/◌, ◌%◌, ◌<◌, ◌≤◌, true, false, ltb, eqb, List, [], ◌∷◌, length, sym, refl, ap, ◌∙◌, inl, inr, arith}
+use Rattle.std.specs.List.{fold}
+use Rattle.std.proofs.lemmas.Bool.{cases_Bool, cases_eq, both_ways, eqb-true, ltb-true, and_parts, or_cases}
+use Rattle.order.specs.declared.board.TheConstants.{CARDS}
+use Rattle.order.specs.Lists.{any, has}
+use Rattle.order.proofs.Members.{has_head, has_tail}
 use Rattle.memory.specs.declared.column.Column.{Column}
-use Rattle.memory.specs.Columns.{cell, written, apart}
+use Rattle.memory.specs.Columns.{cell, written}
+use Rattle.memory.specs.Footprints.{Writes}
 use Rattle.memory.proofs.Cells.{cell_same, cell_other}
-use Rattle.links.specs.Layout.{froms, tos}
-use Rattle.memory.proofs.Cells.{small_cell}
-use Rattle.batch.specs.Layout.{leaves, numbers}
-use Rattle.batch.specs.Circling.{stays, noted, noted_all}
-use Rattle.batch.proofs.Beside.{Beside, beside_on, beside_written}
-use Rattle.batch.specs.Listing.{at_each}
+use Rattle.memory.proofs.Footprints.{same, on, put_one}
+use Rattle.batch.specs.declared.layout.TheConstants.{LEAVES, NUMBERS}
+use Rattle.batch.specs.Circling.{stays, noted}
 
-abbrev pub NotNumbers : Column → Type 0
-NotNumbers d = apart numbers d ≡ true
+-- the column of what is noted
+abbrev pub noting : List Column
+noting = NUMBERS ∷ []
 
--- m is the memory before; e entries are looked at
-module _ (m : List ℕ) (e : ℕ) (long : numbers.base + numbers.size ≤ length m) where
-  -- what is noted for t is what an entry comes out of that goes into t, and it hasn't come
-  pub record Noted (t : ℕ) (x : List ℕ) : Type 0 where
-    pub entry : ℕ
-    pub inside : entry < e
-    pub late : stays m (cell m froms entry) ≡ true
-    pub into : cell m tos entry ≡ t
-    pub is : cell x numbers t ≡ cell m froms entry
+stays_low : (m : List ℕ) (s : ℕ) → stays m s ≡ true → s < CARDS
+unfolding stays
+stays_low m s e = ltb-true s CARDS (and_parts (ltb s CARDS) _ e).0
 
-  module _ (x : List ℕ) (b : Beside NotNumbers m x) (l : ℕ) where
-    noted_is : noted x l ≡ cond (stays m (cell m froms l)) (written x numbers (cell m tos l) (cell m froms l)) x
-    unfolding noted stays
-    noted_is =
-        let f = b.others froms l refl in
-        let g = b.others leaves (cell m froms l) refl in
-        rw (f, g, b.others tos l refl)
+noted_here : (m : List ℕ) (x : ℕ) → stays m (x / CARDS) ≡ true → noted m x ≡ written m NUMBERS (x % CARDS) (x / CARDS)
+unfolding noted
+noted_here m x e = rw e refl
 
-    beside_noted : Beside NotNumbers m (noted x l)
-    beside_noted = rw noted_is (elim (cases_Bool (stays m (cell m froms l))) [
-      | inl z ↦ rw z (beside_on NotNumbers m x _ b (beside_written NotNumbers x numbers (cell m tos l) (cell m froms l) (λ d t. t)
-          (λ s. omega (arith, small_cell x froms l s, b.others froms l refl))))
-      | inr z ↦ rw z b
-    ])
+noted_not : (m : List ℕ) (x : ℕ) → stays m (x / CARDS) ≡ false → noted m x ≡ m
+unfolding noted
+noted_not m x e = rw e refl
 
-    noted_here : (t : ℕ) → t < 8192 → l < e → stays m (cell m froms l) ≡ true → cell m tos l ≡ t → Noted t (noted x l)
-    noted_here t h i z y = record {
-      entry = l;
-      inside = i;
+pub noted_writes : (m : List ℕ) (x : ℕ) → Writes noting m (noted m x)
+noted_writes m x = elim (cases_Bool (stays m (x / CARDS))) [
+  | inl e ↦ rw (noted_here m x e) (put_one m NUMBERS (x % CARDS) (x / CARDS) (λ s. omega (arith, stays_low m (x / CARDS) e)))
+  | inr e ↦ rw (noted_not m x e) (same noting m)
+]
+
+-- m is the memory before; xs are the links that are looked at
+module _ (m : List ℕ) (long : NUMBERS.base + NUMBERS.size ≤ length m) where
+  -- what is noted for t is what a link of xs comes out of that goes into t, and it hasn't come
+  pub record Noted (xs : List ℕ) (t : ℕ) (n : List ℕ) : Type 0 where
+    pub link : ℕ
+    pub looked : has xs link ≡ true
+    pub late : stays m (link / CARDS) ≡ true
+    pub into : link % CARDS ≡ t
+    pub is : cell n NUMBERS t ≡ link / CARDS
+
+  same_stays : (n : List ℕ) → Writes noting m n → (s : ℕ) → stays n s ≡ stays m s
+  unfolding stays
+  same_stays n w s = rw (w.others LEAVES s refl)
+
+  -- one link more is looked at
+  module _ (n : List ℕ) (w : Writes noting m n) (x : ℕ) (xs : List ℕ) (t : ℕ) (low : t < CARDS) where
+    one_noted : stays m (x / CARDS) ≡ true → x % CARDS ≡ t → has xs x ≡ true → Noted xs t (noted n x)
+    one_noted z y i = record {
+      link = x;
+      looked = i;
       late = z;
       into = y;
-      is = ap (λ (k : List ℕ). cell k numbers t) (noted_is ∙ rw z refl) ∙ ap (λ (s : ℕ). cell (written x numbers s (cell m froms l)) numbers t) y
-          ∙ cell_same x numbers t (cell m froms l) h (omega (arith, b.as_long));
+      is = ap (λ (k : List ℕ). cell k NUMBERS t) (noted_here n x (same_stays n w (x / CARDS) ∙ z))
+          ∙ ap (λ (s : ℕ). cell (written n NUMBERS s (x / CARDS)) NUMBERS t) y ∙ cell_same n NUMBERS t (x / CARDS) low (omega (arith, long, w.as_long));
     }
 
-    noted_still : (t : ℕ) → t < 8192 → l < e → Noted t x → Noted t (noted x l)
-    noted_still t h i w = elim (cases_Bool (stays m (cell m froms l))) [
-      | inl z ↦ elim (cases_eq t (cell m tos l)) [
-        | inl y ↦ noted_here t h i z (sym y)
+    one_still : has xs x ≡ true → Noted xs t n → Noted xs t (noted n x)
+    one_still i o = elim (cases_Bool (stays m (x / CARDS))) [
+      | inl z ↦ elim (cases_eq t (x % CARDS)) [
+        | inl y ↦ one_noted z (sym y) i
         | inr y ↦ record {
-          entry = w.entry;
-          inside = w.inside;
-          late = w.late;
-          into = w.into;
-          is = ap (λ (k : List ℕ). cell k numbers t) (noted_is ∙ rw z refl) ∙ cell_other x numbers (cell m tos l) t (cell m froms l) y ∙ w.is;
+          link = o.link;
+          looked = o.looked;
+          late = o.late;
+          into = o.into;
+          is = ap (λ (k : List ℕ). cell k NUMBERS t) (noted_here n x (same_stays n w (x / CARDS) ∙ z)) ∙ cell_other n NUMBERS (x % CARDS) t (x / CARDS) y ∙ o.is;
         }
       ]
       | inr z ↦ record {
-        entry = w.entry;
-        inside = w.inside;
-        late = w.late;
-        into = w.into;
-        is = ap (λ (k : List ℕ). cell k numbers t) (noted_is ∙ rw z refl) ∙ w.is;
+        link = o.link;
+        looked = o.looked;
+        late = o.late;
+        into = o.into;
+        is = ap (λ (k : List ℕ). cell k NUMBERS t) (noted_not n x (same_stays n w (x / CARDS) ∙ z)) ∙ o.is;
       }
     ]
 
-  pub beside_noted_all : (f : ℕ) (x : List ℕ) (i : ℕ) → Beside NotNumbers m x → Beside NotNumbers m (noted_all f x i)
-  unfolding noted_all at_each
-  beside_noted_all zero x i b = b
-  beside_noted_all (suc f) x i b = beside_noted_all f (noted x i) (i + 1) (beside_noted x b i)
+  -- all of ys are looked at, which are of xs
+  module _ (xs : List ℕ) (t : ℕ) (low : t < CARDS) where
+    all_still : (ys n : List ℕ) → Writes noting m n → ((y : ℕ) → has ys y ≡ true → has xs y ≡ true) → Noted xs t n → Noted xs t (fold noted n ys)
+    all_still [] n w h o = o
+    all_still (y ∷ ys) n w h o =
+        all_still ys (noted n y) (on noting m n (noted n y) w (noted_writes n y)) (λ z i. h z (has_tail y ys z i))
+        (one_still n w y xs t low (h y (has_head y ys)) o)
 
-  all_still : (f : ℕ) (x : List ℕ) (i t : ℕ) → Beside NotNumbers m x → i + f ≤ e → t < 8192 → Noted t x → Noted t (noted_all f x i)
-  unfolding noted_all at_each
-  all_still zero x i t b l h w = w
-  all_still (suc f) x i t b l h w =
-      all_still f (noted x i) (i + 1) t (beside_noted x b i) (omega arith) h (noted_still x b i t h (omega arith) w)
+    pub all_noted : (ys n : List ℕ) (x : ℕ) → Writes noting m n → ((y : ℕ) → has ys y ≡ true → has xs y ≡ true) → has ys x ≡ true →
+        stays m (x / CARDS) ≡ true → x % CARDS ≡ t → Noted xs t (fold noted n ys)
+    unfolding any
+    all_noted [] n x w h i z e = absurd (both_ways false refl i)
+    all_noted (y ∷ ys) n x w h i z e =
+        let v = on noting m n (noted n y) w (noted_writes n y) in
+        let g : (k : ℕ) → has ys k ≡ true → has xs k ≡ true = λ k j. h k (has_tail y ys k j) in
+        elim (or_cases (eqb x y) (has ys x) i) [
+          | inl j ↦
+              let q = eqb-true x y j in
+              all_still ys (noted n y) v g
+              (one_noted n w y xs t low (ap (λ (k : ℕ). stays m (k / CARDS)) (sym q) ∙ z) (ap (λ (k : ℕ). k % CARDS) (sym q) ∙ e) (h y (has_head y ys)))
+          | inr j ↦ all_noted ys (noted n y) x v g j z e
+        ]
 
-  pub all_noted : (f : ℕ) (x : List ℕ) (i j t : ℕ) → Beside NotNumbers m x → i + f ≤ e → i ≤ j → j < i + f → stays m (cell m froms j) ≡ true →
-      cell m tos j ≡ t → t < 8192 → Noted t (noted_all f x i)
-  unfolding noted_all at_each
-  all_noted zero x i j t b l u v z y h = absurd (omega arith)
-  all_noted (suc f) x i j t b l u v z y h = elim (cases_eq i j) [
-    | inl k ↦
-        all_still f (noted x i) (i + 1) t (beside_noted x b i) (omega arith) h
-        (noted_here x b i t h (omega arith) (ap (λ (n : ℕ). stays m (cell m froms n)) k ∙ z) (ap (cell m tos) k ∙ y))
-    | inr k ↦ all_noted f (noted x i) (i + 1) j t (beside_noted x b i) (omega arith) (omega arith) (omega arith) z y h
-  ]
+pub fold_writes : (xs m : List ℕ) → Writes noting m (fold noted m xs)
+fold_writes [] m = same noting m
+fold_writes (x ∷ xs) m = on noting m (noted m x) _ (noted_writes m x) (fold_writes xs (noted m x))

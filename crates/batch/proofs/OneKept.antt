@@ -1,6 +1,7 @@
 -- A command, and a row made anew, are done or refused rightly.
 use Rattle.std.proofs.Common.{◌≡◌, ℕ, ◌≤◌, Bool, true, false, cond, ◌&&◌, leb, List, [], ◌∷◌, length, Some, None, arith, length-append}
 use Rattle.std.proofs.lemmas.Bool.{leb-false}
+use Rattle.order.specs.declared.board.TheConstants.{LINKS}
 use Rattle.order.specs.declared.board.Link.{Link}
 use Rattle.command.specs.declared.command.Command.{Command}
 use Rattle.command.specs.declared.command.Command.TheVariants.{Comes, Goes, Link as Links, Unlink as Unlinks, Places}
@@ -21,13 +22,13 @@ use Rattle.batch.proofs.Tries.{means_fine}
 use Rattle.batch.proofs.Within.{filter_no_longer}
 
 -- a command leaves no more links than there may be
-rest_few : (f : Link → Bool) (xs : List Link) → length xs ≤ 65536 → length (filter f xs) ≤ 65536
+rest_few : (f : Link → Bool) (xs : List Link) → length xs ≤ LINKS → length (filter f xs) ≤ LINKS
 rest_few f xs h = omega (arith, filter_no_longer f xs)
 
 room : (w x y z : Bool) → cond w (cond x (Some Exists) (cond y (Some Cycle) (cond z (Some Full) None))) (Some Missing) ≡ None → z ≡ false
 room w x y z e = grind arith
 
-few_after : (r : Board) (c : Command) → refusal r c ≡ None → length r.links ≤ 65536 → length (links_after r c) ≤ 65536
+few_after : (r : Board) (c : Command) → refusal r c ≡ None → length r.links ≤ LINKS → length (links_after r c) ≤ LINKS
 unfolding refusal link_refusal links_after
 few_after r (Comes k) z h = h
 few_after r (Goes k) z h = rest_few _ r.links h
@@ -35,8 +36,8 @@ few_after r (Links l) z h =
     omega (
       arith,
       length-append r.links ((l.from ⟶ l.to) ∷ []),
-      leb-false 65536 (length r.links)
-          (room (has r.row l.from && has r.row l.to) (linked r l.from l.to) (leads r l.to l.from) (leb 65536 (length r.links)) z),
+      leb-false LINKS (length r.links)
+          (room (has r.row l.from && has r.row l.to) (linked r l.from l.to) (leads r l.to l.from) (leb LINKS (length r.links)) z),
     )
 few_after r (Unlinks l) z h = rest_few _ r.links h
 few_after r (Places a b) z h = h

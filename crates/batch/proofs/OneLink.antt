@@ -5,7 +5,7 @@ use Rattle.order.specs.declared.board.Link.{Link}
 use Rattle.command.specs.declared.command.Command.TheVariants.{Link as Links}
 use Rattle.order.specs.Lists.{every, has, place, distinct}
 use Rattle.order.specs.Board.{Board, keeps, fine}
-use Rattle.order.specs.Reordering.{link_must_be, with_link, backward}
+use Rattle.order.specs.Reordering.{with_link, backward, link_must_be}
 use Rattle.command.specs.Commands.{may_be, must_be}
 use Rattle.order.proofs.Filters.{every_append, same_itself}
 use Rattle.order.proofs.Climbs.{fine_parts, link_before}

@@ -5,7 +5,7 @@ use Rattle.order.specs.declared.board.Link.{Link}
 use Rattle.command.specs.declared.command.Command.TheVariants.{Link as Links}
 use Rattle.order.specs.Lists.{filter}
 use Rattle.order.specs.Board.{Board, ◌⟶◌, keeps, fine, leads}
-use Rattle.order.specs.Reordering.{link_must_be, with_link, backward, touched, firm}
+use Rattle.order.specs.Reordering.{with_link, backward, touched, firm, link_must_be}
 use Rattle.command.specs.Commands.{must_be}
 use Rattle.order.proofs.Filters.{same_is}
 use Rattle.order.proofs.Climbs.{fine_parts}

@@ -1,10 +1,10 @@
 -- A part of the memory was sorted: the rest is as it was, in the part stands what is sorted, and no number is new.
-use Rattle.std.proofs.Common.{◌≡◌, ℕ, ◌+◌, ◌-◌, ◌<◌, ◌≤◌, Bool, true, ◌⊎◌, List, ◌++◌, length, get_or, take, drop, sym, ap, ◌∙◌, inl, inr, arith}
+use Rattle.std.proofs.Common.{◌≡◌, ℕ, zero, suc, ◌+◌, ◌-◌, ◌^◌, ◌<◌, ◌≤◌, Bool, true, ltb, ◌⊎◌, List, [], ◌∷◌, ◌++◌, length, get_or, take, drop, sym, refl, ap, ◌∙◌, inl, inr, arith}
 use borrow.Rule.Slice.PartMut.{put_mid}
 use Rattle.std.specs.List.{between}
 use Rattle.std.specs.List.Sorted.{IsPermutation, IsNonDecreasing}
 use Rattle.std.proofs.lemmas.Bool.Decides.{nat_tests}
-use Rattle.std.proofs.lemmas.Bool.{cases_lt, le-leb, and_from}
+use Rattle.std.proofs.lemmas.Bool.{cases_lt, le-leb, lt-ltb, ltb-true, and_parts, and_from}
 use Rattle.std.proofs.lemmas.List.{drop-drop, drop_at, take_at, length-take-le, length-append, length-take, length-drop, places}
 use Rattle.std.proofs.lemmas.List.Edits.{length-between}
 use Rattle.std.proofs.lemmas.List.Sorted.{length_permutation}
@@ -13,11 +13,25 @@ use Rattle.memory.specs.Columns.{cell}
 use Rattle.order.specs.Lists.{every}
 use Rattle.order.proofs.Filters.{every_append, every_take}
 use Rattle.order.proofs.RenamesLists.{every_drop}
-use Rattle.keeper.specs.Promise.{all_small}
-use Rattle.keeper.specs.Sized.{KeepsSize}
+use Rattle.memory.specs.Footprints.{Small}
 use Rattle.batch.specs.Rule.{sorted}
 use Rattle.batch.specs.Sorting.{sorted_part}
 use Rattle.batch.proofs.Sorts.{sorted_shuffles, sorted_so, every_sorted}
+
+-- the test of small numbers
+abbrev below : ℕ → Bool
+below k = ltb k (2 ^ 64)
+
+every_below : (m : List ℕ) → Small m → every below m ≡ true
+unfolding every
+every_below [] s = refl
+every_below (x ∷ xs) s = and_from _ _ (lt-ltb x (2 ^ 64) (s 0)) (every_below xs (λ i. s (suc i)))
+
+every_is_small : (m : List ℕ) → every below m ≡ true → Small m
+unfolding every
+every_is_small [] e i = omega arith
+every_is_small (x ∷ xs) e zero = ltb-true x (2 ^ 64) (and_parts (below x) (every below xs) e).0
+every_is_small (x ∷ xs) e (suc i) = every_is_small xs (and_parts (below x) (every below xs) e).1 i
 
 -- a list put in the place of a part as long
 module _ (m new : List ℕ) (low high i d : ℕ) (l : low ≤ high) (h : high ≤ length m) (e : length new ≡ high - low) where
@@ -97,6 +111,5 @@ module _ (m : List ℕ) (low high : ℕ) where
     | inr n ↦ rw (no_part n) a
   ]
 
-  pub size_sorted_part : KeepsSize m (sorted_part m low high)
-  unfolding all_small
-  size_sorted_part = (length_sorted_part, every_part _)
+  pub small_sorted_part : Small m → Small (sorted_part m low high)
+  small_sorted_part s = every_is_small _ (every_part below (every_below m s))

@@ -1,7 +1,7 @@
 -- What is done place by place: the steps of such a loop.
 use Rattle.std.proofs.Common.{◌≡◌, ℕ, ◌+◌, ◌-◌, ◌<◌, ◌≤◌, List}
+use Rattle.memory.specs.Footprints.{at_each}
 use Rattle.memory.proofs.Fuel.{fuel_step, fuel_end}
-use Rattle.batch.specs.Listing.{at_each}
 
 pub each_go : (step : List ℕ → ℕ → List ℕ) (N i : ℕ) (m : List ℕ) → i < N →
     at_each step (N - i) m i ≡ at_each step (N - (i + 1)) (step m i) (i + 1)

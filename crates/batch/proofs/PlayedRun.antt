@@ -2,7 +2,9 @@
 use Rattle.std.proofs.Common.{◌≡◌, ℕ, zero, suc, ◌≤◌, true, List, [], length, sym, refl, ◌∙◌, subst, arith}
 use lib.ListN.{length-replicate}
 use Rattle.std.proofs.lemmas.Bool.Decides.{nat_tests as tests}
+use Rattle.memory.specs.declared.column.TheConstants.{MEMORY}
 use Rattle.command.specs.Commands.{Told}
+use Rattle.keeper.specs.declared.layout.TheConstants.{OUTPUT}
 use Rattle.keeper.specs.declared.event.Telling.TheVariants.{PassedOver}
 use Rattle.keeper.specs.Answers.{as_told}
 use Rattle.keeper.specs.Own.{step_fits}
@@ -16,7 +18,7 @@ use Rattle.batch.specs.Playing.{stepped, plays}
 use Rattle.batch.specs.PlayLaws.{Plays, PlaysUnfit}
 use Rattle.batch.proofs.Wholly.{sized, each}
 
-pub stepped_fits : (m : List ℕ) (h : Heard) (out : List ℕ) → length m ≡ 524288 → 8192 ≤ length out →
+pub stepped_fits : (m : List ℕ) (h : Heard) (out : List ℕ) → length m ≡ MEMORY → OUTPUT ≤ length out →
     stepped PassedOver m h out
     ≡ record { act = (answer m h).act; memory = (answer m h).memory; out = fronted (as_told PassedOver (answer m h)).numbers out }
 unfolding stepped
@@ -26,7 +28,7 @@ pub guarded_small : (m : List ℕ) (h : Heard) → small_heard h ≡ true → gu
 unfolding guarded
 guarded_small m h z = rw z
 
-run_agrees : (n : ℕ) (m : List ℕ) (h : Heard) (out : List ℕ) (ts : List Told) (ss : List (List ℕ)) (s : ℕ) → length m ≡ 524288 → 8192 ≤ length out →
+run_agrees : (n : ℕ) (m : List ℕ) (h : Heard) (out : List ℕ) (ts : List Told) (ss : List (List ℕ)) (s : ℕ) → length m ≡ MEMORY → OUTPUT ≤ length out →
     small_heard h ≡ true → Agrees (runs n own m h ts ss) (plays n m h out s)
 unfolding runs plays small_heard
 run_agrees zero m h out ts ss s l o q = neither 1000 _ _ _ (λ z. omega arith) (high 1000 (omega arith))
@@ -40,7 +42,7 @@ run_agrees (suc n) m h out ts ss s l o q =
 pub plays_right : Plays
 unfolding Done Refused small_heard
 plays_right m r s out l a M f sm o =
-    let k = each m r s (l ∙ sym (length-replicate {A = ℕ} 524288 0)) a (record { means = M; few = f }) sm in
+    let k = each m r s (l ∙ sym (length-replicate {A = ℕ} MEMORY 0)) a (record { means = M; few = f }) sm in
     let g = run_agrees 3 m (said s) out [] [] 0 l o sm in (
       (λ z.
           let d = k.0 z in

@@ -3,11 +3,13 @@ use Rattle.std.proofs.Common.{Ok, Err, Result, ◌≡◌, ℕ, zero, suc, ◌≤
 use lib.ListN.{length-replicate}
 use Rattle.std.proofs.lemmas.List.{take_all, take_at}
 use Rattle.std.proofs.lemmas.Bool.{le-leb}
+use Rattle.memory.specs.declared.column.TheConstants.{MEMORY}
 use Rattle.command.specs.declared.command.Command.TheVariants.{Comes, Goes, Link as Links, Unlink as Unlinks, Places}
 use Rattle.order.specs.declared.board.Refusal.TheVariants.{Cycle}
 use Rattle.order.specs.Board.{Board}
 use Rattle.order.specs.Reordering.{link_refusal}
 use Rattle.command.specs.Commands.{refusal, Told}
+use Rattle.keeper.specs.declared.layout.TheConstants.{OUTPUT, TOLD}
 use Rattle.keeper.specs.declared.event.Act.{Act}
 use Rattle.keeper.specs.declared.event.Reason.{Reason}
 use Rattle.keeper.specs.declared.event.Act.TheVariants.{Tells, Shows, Done}
@@ -60,13 +62,13 @@ module _ (go : Go) (on : List ℕ → List ℕ → ℕ → Ending) (ts : List To
       ShowsSo (one_act go ts ss m (action_of a ks)) (by_act on m (fronted (written_out PassedOver a ks) out) s a)
   unfolding one_act by_act written_out
   act_shows (Ok (Tells p n)) l f =
-      rw (le-leb (length (take n ks)) 4096 (omega (arith, length-take n ks)))
+      rw (le-leb (length (take n ks)) TOLD (omega (arith, length-take n ks)))
       (f _ ss s (record { none = h.none; single = λ js e. absurd (not_none ts _ e) }))
   act_shows (Ok (Shows n)) l f = f ts _ n (shown_front ts ss n ks out l)
   act_shows (Ok Done) l f = rw l h
   act_shows (Err e) l f = rw l h
 
-run_shows : (n : ℕ) (m : List ℕ) (h : Heard) (out : List ℕ) (ts : List Told) (ss : List (List ℕ)) (s : ℕ) → length m ≡ 524288 → 8192 ≤ length out →
+run_shows : (n : ℕ) (m : List ℕ) (h : Heard) (out : List ℕ) (ts : List Told) (ss : List (List ℕ)) (s : ℕ) → length m ≡ MEMORY → OUTPUT ≤ length out →
     small_heard h ≡ true → Showing ts ss s out → ShowsSo (runs n own m h ts ss) (plays n m h out s)
 unfolding runs plays small_heard as_told
 run_shows zero m h out ts ss s l o q w = w
@@ -109,7 +111,7 @@ round_shows r s ts ss p h t z w =
 pub shows_right : PlaysShows
 unfolding DoneSo RefusedSo small_heard
 shows_right m r s out l a M f sm o =
-    let k = each m r s (l ∙ sym (length-replicate {A = ℕ} 524288 0)) a (record { means = M; few = f }) sm in
+    let k = each m r s (l ∙ sym (length-replicate {A = ℕ} MEMORY 0)) a (record { means = M; few = f }) sm in
     let v = run_of 3 own m s in
     let p = played m (said s) out in
     let g = run_shows 3 m (said s) out [] [] 0 l o sm (record { none = λ _. refl; single = λ ks _ e. absurd (not_none [] ks (sym e)) }) in (

@@ -4,8 +4,8 @@ use Rattle.std.specs.List.{list_any}
 use Rattle.order.specs.Lists.{any}
 use Rattle.order.specs.declared.board.Link.{Link}
 use Rattle.order.specs.Board.{Board}
-use Rattle.links.specs.Entries.{joins}
-use Rattle.links.proofs.Edging.{any_append}
+use Rattle.links.specs.Pairs.{joins}
+use Rattle.batch.proofs.Anys.{any_append}
 use Rattle.search.specs.Meaning.{Ready}
 use Rattle.keeper.specs.Meaning.{card_board}
 use Rattle.batch.specs.Several.{all_there, with_links, said_before}

@@ -2,12 +2,13 @@
 use Rattle.std.proofs.Common.{ℕ, ◌≤◌, ◌+◌, eqb, ltb, leb, List, [], ◌∷◌, length, Some, None, Option, arith}
 use lib.ListN.{length-map}
 use Rattle.std.proofs.lemmas.Bool.{cond_both}
+use Rattle.order.specs.declared.board.TheConstants.{CARDS, LINKS}
 use Rattle.order.specs.declared.board.Link.{Link}
 use Rattle.memory.specs.Columns.{cell}
-use Rattle.row.specs.Layout.{ids, places}
+use Rattle.row.specs.declared.layout.TheConstants.{IDS, SEATS}
 use Rattle.memory.proofs.Options.{given_holds}
-use Rattle.links.specs.Layout.{live}
-use Rattle.search.specs.Layout.{via}
+use Rattle.links.specs.Entries.{live}
+use Rattle.search.specs.declared.layout.TheConstants.{VIA}
 use Rattle.search.specs.Hunt.{meeting}
 use Rattle.search.specs.Way.{way}
 use Rattle.search.proofs.Joining.{way_few}
@@ -18,6 +19,7 @@ use Rattle.keeper.specs.Own.{went_on, answer as keeper_answer}
 use Rattle.keeper.specs.Reordering.{round_cards}
 use Rattle.keeper.proofs.OwnSize.{Any}
 use Rattle.keeper.proofs.Room.{Few, few_answer}
+use Rattle.batch.specs.declared.layout.TheConstants.{BATCH}
 use Rattle.batch.specs.declared.seating.Span.{Span}
 use Rattle.batch.specs.Checking.{all_found, repeated}
 use Rattle.batch.specs.Joining.{Joined, joined_slots, joined, Tried, tried}
@@ -29,7 +31,7 @@ use Rattle.batch.specs.Own.{said_anew, when_idle, answer}
 -- a way
 abbrev FewWay : Option (List ℕ) → Type 0
 FewWay None = Unit {0}
-FewWay (Some ks) = length ks ≤ 8192
+FewWay (Some ks) = length ks ≤ CARDS
 
 abbrev FewJoined : Joined → Type 0
 FewJoined j = FewWay j.way
@@ -37,10 +39,10 @@ FewJoined j = FewWay j.way
 few_slots : (m : List ℕ) (x : Link) → FewWay (joined_slots m x).way
 unfolding joined_slots round_cards
 few_slots m x =
-    cond_both (ltb (cell m places x.to) (cell m places x.from)) _ _ FewJoined
+    cond_both (ltb (cell m SEATS x.to) (cell m SEATS x.from)) _ _ FewJoined
     (λ _. given_holds Any FewJoined (meeting m x).answer _ _ tt tt (λ y _.
     let n = (meeting m x).memory in
-    omega (arith, length-map (way (cell n via) 8192 x y) (cell n ids), way_few (cell n via) 8192 x y)))
+    omega (arith, length-map (way (cell n VIA) CARDS x y) (cell n IDS), way_few (cell n VIA) CARDS x y)))
     (λ _. tt)
 
 few_joined : (m : List ℕ) (l : Link) → FewWay (joined m l).way
@@ -64,7 +66,7 @@ few_on m = few_answer m Next
 few_brought : (m : List ℕ) (ls : List Link) (o : Option Span) → Few (brought m ls o)
 unfolding brought
 few_brought m ls o =
-    cond_both (leb (live m) 65536) _ _ Few (λ _. given_holds Any Few o _ _ tt (omega arith) (λ s _. few_on (noting m s))) (λ _. omega arith)
+    cond_both (leb (live m) LINKS) _ _ Few (λ _. given_holds Any Few o _ _ tt (omega arith) (λ s _. few_on (noting m s))) (λ _. omega arith)
 
 few_trial : (t : Tried) (ls : List Link) (o : Option Span) → FewWay t.way → Few (by_trial t ls o)
 unfolding by_trial
@@ -73,7 +75,7 @@ few_trial t ls o w = given_holds FewWay Few t.way _ _ w (few_brought t.memory ls
 few_several : (m : List ℕ) (ls : List Link) → Few (said_several m ls)
 unfolding said_several rearranged
 few_several m ls =
-    cond_both (leb (length ls) 256) _ _ Few (λ _. cond_both (all_found m ls) _ _ Few (λ _. cond_both (repeated m [] ls) _ _ Few (λ _. omega arith) (λ _. few_trial _ ls _ (few_tried _ ls 0))) (λ _. omega arith)) (λ _. omega arith)
+    cond_both (leb (length ls) BATCH) _ _ Few (λ _. cond_both (all_found m ls) _ _ Few (λ _. cond_both (repeated m [] ls) _ _ Few (λ _. omega arith) (λ _. few_trial _ ls _ (few_tried _ ls 0))) (λ _. omega arith)) (λ _. omega arith)
 
 few_anew : (m : List ℕ) → Few (said_anew m)
 unfolding said_anew

@@ -1,5 +1,5 @@
 -- Runs on the engine of this crate: after its first answer a saying goes on as on the keeper's.
-use Rattle.std.proofs.Common.{Ok, ◌≡◌, ℕ, zero, suc, true, leb, List, [], ◌∷◌, length, refl, ap, ◌∙◌, inl, inr, arith}
+use Rattle.std.proofs.Common.{Ok, ◌≡◌, ℕ, zero, suc, ◌+◌, ◌≤◌, true, leb, List, [], ◌∷◌, length, refl, ap, ◌∙◌, inl, inr, arith}
 use Rattle.std.proofs.lemmas.List.{take_all}
 use Rattle.std.proofs.lemmas.Bool.{cases_Bool, eq-eqb}
 use Rattle.command.specs.declared.command.Command.{Command}
@@ -7,7 +7,7 @@ use Rattle.order.specs.declared.board.Refusal.{Refusal}
 use Rattle.order.specs.declared.board.Refusal.TheVariants.{Missing, Exists, Cycle, Full}
 use Rattle.order.specs.Reordering.{number}
 use Rattle.command.specs.Commands.{Told}
-use Rattle.search.specs.Meaning.{Ready}
+use Rattle.keeper.specs.declared.layout.TheConstants.{MORE_TO, TOLD}
 use Rattle.keeper.specs.declared.event.Event.TheVariants.{Said, Next}
 use Rattle.keeper.specs.declared.event.Act.TheVariants.{Shows, Done}
 use Rattle.keeper.specs.Engine.{Action, tells, shows, done, refused, action_of, ran, one_act, runs as keeper_runs, run_of as keeper_run_of}
@@ -17,7 +17,7 @@ use Rattle.keeper.specs.Own.{own as keeper_own}
 use Rattle.keeper.proofs.Ends.{Go}
 use Rattle.keeper.proofs.Unroll.{run_refused}
 use Rattle.keeper.proofs.Saying.{step_next, went_round}
-use Rattle.keeper.proofs.Noting.{is_pending}
+use Rattle.keeper.proofs.Carrying.{is_pending}
 use Rattle.keeper.proofs.ToldRuns.{from_first}
 use Rattle.batch.specs.Engine.{Saying, one, said, next, runs, run_of}
 use Rattle.batch.specs.Promise.{small_saying, small_heard}
@@ -26,7 +26,7 @@ use Rattle.batch.specs.Own.{when_idle, answer, guarded, own}
 act_same : (go go₁ : Go) → ((m : List ℕ) (ts : List Told) (ss : List (List ℕ)) → go m ts ss ≡ go₁ m ts ss) →
     (ts : List Told) (ss : List (List ℕ)) (m : List ℕ) (a : Action) → one_act go ts ss m a ≡ one_act go₁ ts ss m a
 unfolding one_act
-act_same go go₁ e ts ss m (tells i ks) = elim (cases_Bool (leb (length ks) 4096)) [
+act_same go go₁ e ts ss m (tells i ks) = elim (cases_Bool (leb (length ks) TOLD)) [
   | inl t ↦ rw t (e m _ ss)
   | inr t ↦ rw t
 ]
@@ -84,12 +84,12 @@ first_refused m Exists = refl
 first_refused m Cycle = refl
 first_refused m Full = refl
 
-pub first_round : (m : List ℕ) (R : Ready m) (ks : List ℕ) →
+pub first_round : (m : List ℕ) (long : MORE_TO.base + MORE_TO.size ≤ length m) (ks : List ℕ) →
     from_first (record { act = Ok (Shows (length ks)); memory = leaves_pending m 2; numbers = ks })
     ≡ ran (leaves_pending (leaves_pending m 2) 0) [] (ks ∷ []) (number Cycle)
 unfolding one_act
-first_round m R ks =
+first_round m long ks =
     let k = leaves_pending m 2 in
-    let g = step_next k _ (went_round k (is_pending m R 2)) in
+    let g = step_next k _ (went_round k (is_pending m long 2)) in
     ap (λ (xs : List ℕ). keeper_runs 2 keeper_own k Next [] (xs ∷ [])) (take_all (length ks) ks (omega arith))
     ∙ run_refused 1 keeper_own k (leaves_pending k 0) Next [] (ks ∷ []) 5 (omega arith) (omega arith) g

@@ -1,28 +1,33 @@
 -- Several links said at once keep the size of the memory, whatever stands there, and what is answered fits what carries it.
-use Rattle.std.proofs.Common.{Ok, ◌≡◌, ℕ, ◌+◌, ◌-◌, ◌<◌, ◌≤◌, min, true, eqb, ltb, leb, List, [], ◌∷◌, length, take, Some, None, Option, arith}
+use Rattle.std.proofs.Common.{Ok, ◌≡◌, ℕ, ◌+◌, ◌-◌, ◌^◌, ◌<◌, ◌≤◌, min, true, eqb, ltb, leb, List, [], ◌∷◌, length, take, Some, None, Option, arith}
 use lib.ListN.{length-map}
 use Rattle.std.proofs.lemmas.Bool.{and_parts, ltb-true, cond_both}
+use Rattle.order.specs.declared.board.TheConstants.{CARDS, LINKS}
 use Rattle.command.specs.declared.command.Command.TheVariants.{Link as Links}
 use Rattle.order.specs.declared.board.Link.{Link}
 use Rattle.order.specs.declared.board.Refusal.TheVariants.{Missing, Exists, Full}
 use Rattle.order.specs.Lists.{every}
 use Rattle.memory.specs.Columns.{cell}
-use Rattle.row.specs.Layout.{tally, ids, places}
-use Rattle.links.specs.Layout.{live}
-use Rattle.search.specs.Layout.{via}
+use Rattle.memory.proofs.Cells.{small_cell}
+use Rattle.row.specs.declared.layout.TheConstants.{IDS, SEATS}
+use Rattle.row.specs.Moves.{packed}
+use Rattle.row.proofs.Framing.{packed_writes}
+use Rattle.links.specs.Entries.{live}
+use Rattle.search.specs.declared.layout.TheConstants.{VIA}
 use Rattle.search.specs.Hunt.{meeting}
-use Rattle.search.specs.Settle.{settled}
 use Rattle.search.specs.Way.{way}
 use Rattle.search.proofs.Joining.{way_few}
+use Rattle.search.proofs.Touching.{writes_meeting}
 use Rattle.keeper.specs.Promise.{all_small, small_command}
 use Rattle.keeper.specs.Sized.{KeepsSize}
 use Rattle.keeper.specs.Linking.{slots_found}
 use Rattle.keeper.specs.Reordering.{round_cards}
-use Rattle.keeper.proofs.Size.{small_map, small_cell, size_same, size_then, size_written}
-use Rattle.keeper.proofs.OwnSize.{BothBelow, size_inserted, size_removed, size_meeting, size_forgotten, size_settled, size_pending, Sized, sized_done, sized_refuses, sized_then, sized_cond, sized_shows, small_one, both_found, Any, sized_on}
+use Rattle.keeper.proofs.Size.{small_each, small_map, size_same, size_then, size_writes}
+use Rattle.keeper.proofs.OwnSize.{size_pending, Sized, sized_done, sized_refuses, sized_then, sized_cond, sized_shows, small_one, Any, sized_on}
+use Rattle.batch.specs.declared.layout.TheConstants.{BATCH}
 use Rattle.batch.specs.declared.seating.Span.{Span}
 use Rattle.batch.specs.Checking.{all_found, repeated, wider, widened, spanned, moving, no_span, span}
-use Rattle.batch.specs.Joining.{Joined, joined_slots, joined, Tried, tried, dropped, taken_out}
+use Rattle.batch.specs.Joining.{Joined, joined_slots, joined, Tried, tried, taken_out}
 use Rattle.batch.specs.Saying.{noting, told_span, part_aside, undone, brought, by_trial, rearranged, said_several}
 use Rattle.batch.specs.Seating.{reseated}
 use Rattle.memory.specs.Options.{given}
@@ -30,13 +35,15 @@ use Rattle.memory.proofs.Options.{given_holds}
 use Rattle.keeper.specs.Answers.{quiet, ends}
 use Rattle.keeper.specs.declared.event.Act.TheVariants.{Done}
 use Rattle.batch.specs.declared.checking.Named.{Named}
-use Rattle.batch.proofs.Saving.{saves_only}
-use Rattle.batch.proofs.Reseating.{reseats_only}
+use Rattle.batch.proofs.Saving.{saved_writes}
+use Rattle.batch.proofs.Writing.{reseated_writes}
+use Rattle.batch.proofs.SpanTold.{noting_writes}
+use Rattle.batch.proofs.TriedFrames.{joined_writes, tried_writes, taken_out_writes}
 
 -- a way to be shown
 abbrev WayFits : List ℕ → Option (List ℕ) → Type 0
 WayFits m None = Unit {0}
-WayFits m (Some ks) = (length ks ≤ 8192) × (all_small m ≡ true → all_small ks ≡ true)
+WayFits m (Some ks) = (length ks ≤ CARDS) × (all_small m ≡ true → all_small ks ≡ true)
 
 way_then : (m m₁ : List ℕ) (o : Option (List ℕ)) → KeepsSize m m₁ → WayFits m₁ o → WayFits m o
 way_then m m₁ None b w = tt
@@ -45,59 +52,46 @@ way_then m m₁ (Some ks) b w = (w.0, λ h. w.1 (b.1 h))
 round_fits : (m : List ℕ) (x y : Link) → WayFits m (Some (round_cards m x y))
 unfolding round_cards
 round_fits m x y =
-    let w = way (cell m via) 8192 x y in
-    (omega (arith, length-map w (cell m ids), way_few (cell m via) 8192 x y), λ h. small_map (cell m ids) (λ k. small_cell m ids k h) w)
+    let w = way (cell m VIA) CARDS x y in
+    (omega (arith, length-map w (cell m IDS), way_few (cell m VIA) CARDS x y), λ h. small_map (cell m IDS) (λ k. small_cell m IDS k (small_each m h)) w)
 
 -- a link is tried
 abbrev JoinedFits : List ℕ → Joined → Type 0
-JoinedFits m j = KeepsSize m j.memory × WayFits m j.way
+JoinedFits m j = WayFits m j.way
 
-joined_slots_fits : (m : List ℕ) (x : Link) → BothBelow (Some x) → JoinedFits m (joined_slots m x)
+joined_slots_fits : (m : List ℕ) (x : Link) → WayFits m (joined_slots m x).way
 unfolding joined_slots
-joined_slots_fits m x b =
+joined_slots_fits m x =
     let n = (meeting m x).memory in
-    let s = size_meeting m x in
-    cond_both (ltb (cell m places x.to) (cell m places x.from)) _ _ (JoinedFits m)
-    (λ _. given_holds Any (JoinedFits m) (meeting m x).answer _ _ tt
-    (size_then m n _ s (size_then n (settled n) _ (size_settled n) (size_inserted (settled n) x b)), tt)
-    (λ y _. (size_then m n _ s (size_forgotten n), way_then m n (Some (round_cards n x y)) s (round_fits n x y))))
-    (λ _. (size_inserted m x b, tt))
+    cond_both (ltb (cell m SEATS x.to) (cell m SEATS x.from)) _ _ (JoinedFits m)
+    (λ _. given_holds Any (JoinedFits m) (meeting m x).answer _ _ tt tt
+    (λ y _. way_then m n (Some (round_cards n x y)) (size_writes _ m n (writes_meeting m x)) (round_fits n x y)))
+    (λ _. tt)
 
-joined_fits : (m : List ℕ) (l : Link) → small_command (Links l) ≡ true → JoinedFits m (joined m l)
+joined_fits : (m : List ℕ) (l : Link) → small_command (Links l) ≡ true → WayFits m (joined m l).way
 unfolding joined small_command
 joined_fits m l h =
     let u = ltb-true _ _ (and_parts (ltb l.from 18446744073709551616) _ h).0 in
-    given_holds BothBelow (JoinedFits m) (slots_found m l) _ _ (both_found m l) (size_same m, tt) (λ x b.
-    cond_both (eqb x.from x.to) _ _ (JoinedFits m) (λ _. (size_same m, (omega arith, λ _. small_one l.from u))) (λ _. joined_slots_fits m x b))
+    given_holds Any (JoinedFits m) (slots_found m l) _ _ tt tt (λ x _.
+    cond_both (eqb x.from x.to) _ _ (JoinedFits m) (λ _. (omega arith, λ _. small_one l.from u)) (λ _. joined_slots_fits m x))
 
 -- links are tried, and taken out again
 abbrev TriedFits : List ℕ → Tried → Type 0
-TriedFits m t = KeepsSize m t.memory × WayFits m t.way
+TriedFits m t = WayFits m t.way
 
-tried_fits : (m : List ℕ) (ls : List Link) (i : ℕ) → every (λ l. small_command (Links l)) ls ≡ true → TriedFits m (tried m ls i)
+tried_fits : (m : List ℕ) (ls : List Link) (i : ℕ) → every (λ l. small_command (Links l)) ls ≡ true → WayFits m (tried m ls i).way
 unfolding tried every
-tried_fits m [] i h = (size_same m, tt)
+tried_fits m [] i h = tt
 tried_fits m (l ∷ ls) i h =
     let p = and_parts (small_command (Links l)) _ h in
     let n = (joined m l).memory in
-    let j = joined_fits m l p.0 in
-    let t = tried_fits n ls (i + 1) p.1 in
-    given_holds (WayFits m) (TriedFits m) (joined m l).way _ _ j.1
-    (size_then m n _ j.0 t.0, way_then m n (tried n ls (i + 1)).way j.0 t.1) (λ ks w. (j.0, w))
-
-size_dropped : (m : List ℕ) (l : Link) → KeepsSize m (dropped m l)
-unfolding dropped
-size_dropped m l = given_holds Any (KeepsSize m) (slots_found m l) _ _ tt (size_same m) (λ x _. size_removed m x)
-
-size_taken_out : (m : List ℕ) (ls : List Link) → KeepsSize m (taken_out m ls)
-unfolding taken_out
-size_taken_out m [] = size_same m
-size_taken_out m (l ∷ ls) = size_then m (dropped m l) _ (size_dropped m l) (size_taken_out (dropped m l) ls)
+    given_holds (WayFits m) (TriedFits m) (joined m l).way _ _ (joined_fits m l p.0)
+    (way_then m n (tried n ls (i + 1)).way (size_writes _ m n (joined_writes m l)) (tried_fits n ls (i + 1) p.1)) (λ ks w. w)
 
 -- the part of the row that may change
 record Bounded (s : Span) : Type 0 where
-  low : s.low ≤ 8192
-  high : s.high < 18446744073709551616
+  low : s.low ≤ CARDS
+  high : s.high < 2 ^ 64
 
 abbrev BoundedNamed : Named → Type 0
 BoundedNamed s = Bounded s.span
@@ -125,20 +119,19 @@ bounded_span m ls =
 
 module _ (m : List ℕ) (s : Span) (b : Bounded s) where
   size_noting : KeepsSize m (noting m s)
-  unfolding noting
-  size_noting = size_written m _ tally 6 s.high (λ _. b.high) (size_written m _ tally 5 s.low (λ _. omega arith) (size_pending m m 3 (omega arith) (size_same m)))
+  size_noting = size_writes _ m _ (noting_writes m s (λ _. omega (arith, b.low)) (λ _. b.high))
 
   sized_told_span : Sized m (told_span m s)
   sized_told_span = sized_then m (noting m s) size_noting _ (sized_on (noting m s))
 
-  size_reseated : (ls : List Link) → KeepsSize m (reseated (min s.high 8192 - s.low) (taken_out m ls) s.low)
+  size_reseated : (ls : List Link) → KeepsSize m (reseated (min s.high CARDS - s.low) (taken_out m ls) s.low)
   size_reseated ls =
       let n = taken_out m ls in
-      size_then m n _ (size_taken_out m ls) (reseats_only n s.low (min s.high 8192 - s.low) (omega arith)).1
+      size_then m n _ (size_writes _ m n (taken_out_writes m ls)) (size_writes _ n _ (reseated_writes (min s.high CARDS - s.low) n s.low (omega arith)))
 
 size_undone : (m : List ℕ) (o : Option Span) (b : BoundedPart o) (ls : List Link) → KeepsSize m (undone m ls o)
 unfolding undone
-size_undone m None b ls = size_taken_out m ls
+size_undone m None b ls = size_writes _ m _ (taken_out_writes m ls)
 size_undone m (Some s) b ls = size_reseated m s b ls
 
 sized_part : (m : List ℕ) (o : Option Span) (b : BoundedPart o) → Sized m (given o (quiet (ends (Ok Done) m)) (λ s. told_span m s))
@@ -148,36 +141,36 @@ sized_part m (Some s) b = sized_told_span m s b
 sized_brought : (m : List ℕ) (o : Option Span) (b : BoundedPart o) (ls : List Link) → Sized m (brought m ls o)
 unfolding brought
 sized_brought m o b ls =
-    sized_cond m (leb (live m) 65536) _ _ (sized_part m o b) (sized_refuses m (undone m ls o) (size_undone m o b ls) Full)
+    sized_cond m (leb (live m) LINKS) _ _ (sized_part m o b) (sized_refuses m (undone m ls o) (size_undone m o b ls) Full)
 
 size_aside : (m : List ℕ) (o : Option Span) → KeepsSize m (part_aside m o)
 unfolding part_aside
 size_aside m None = size_same m
-size_aside m (Some s) = (saves_only m s.low (min s.high 8192 - s.low)).1
+size_aside m (Some s) = size_writes _ m _ (saved_writes m s.low (min s.high CARDS - s.low))
 
 module _ (m : List ℕ) (ls : List Link) (h : every (λ l. small_command (Links l)) ls ≡ true) where
-  sized_trial : (s : Option Span) (t : Tried) → BoundedPart s → TriedFits m t → Sized m (by_trial t ls s)
+  sized_trial : (s : Option Span) (t : Tried) → BoundedPart s → KeepsSize m t.memory → WayFits m t.way → Sized m (by_trial t ls s)
   unfolding by_trial
-  sized_trial s t b f =
+  sized_trial s t b z f =
       let n = t.memory in
-      given_holds (WayFits m) (Sized m) t.way _ _ f.1 (sized_then m n f.0 _ (sized_brought n s b ls)) (λ ks w.
+      given_holds (WayFits m) (Sized m) t.way _ _ f (sized_then m n z _ (sized_brought n s b ls)) (λ ks w.
       let js = take t.count ls in
-      sized_shows m _ (length ks) ks (size_pending m _ 2 (omega arith) (size_then m n _ f.0 (size_undone n s b js))) w.0 w.1)
+      sized_shows m _ (length ks) ks (size_pending m _ 2 (omega arith) (size_then m n _ z (size_undone n s b js))) w.0 w.1)
 
   sized_rearranged : (s : Option Span) → BoundedPart s → Sized m (rearranged m ls s)
   unfolding rearranged
   sized_rearranged s b =
       let n = part_aside m s in
       let z = size_aside m s in
-      let t = tried_fits n ls 0 h in
-      sized_trial s (tried n ls 0) b (size_then m n _ z t.0, way_then m n (tried n ls 0).way z t.1)
+      sized_trial s (tried n ls 0) b (size_then m n _ z (size_writes _ n _ (tried_writes n ls 0))) (way_then m n (tried n ls 0).way z (tried_fits n ls 0 h))
 
 pub sized_several : (m : List ℕ) (ls : List Link) → every (λ l. small_command (Links l)) ls ≡ true → Sized m (said_several m ls)
 unfolding said_several
 sized_several m ls h =
     let no = sized_refuses m m (size_same m) in
-    sized_cond m (leb (length ls) 256) _ _
+    let p = packed m in
+    sized_cond m (leb (length ls) BATCH) _ _
     (sized_cond m (all_found m ls) _ _
-    (sized_cond m (repeated m [] ls) _ _ (no Exists) (sized_rearranged m ls h (span m ls) (bounded_span m ls)))
+    (sized_cond m (repeated m [] ls) _ _ (no Exists) (sized_then m p (size_writes _ m p (packed_writes m)) _ (sized_rearranged p ls h (span p ls) (bounded_span p ls))))
     (no Missing))
     (no Full)

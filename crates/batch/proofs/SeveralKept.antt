@@ -4,7 +4,7 @@ use Rattle.std.proofs.lemmas.Bool.{le-ltb}
 use Rattle.order.specs.declared.board.Link.{Link}
 use Rattle.command.specs.declared.command.Command.TheVariants.{Link as Links}
 use Rattle.order.specs.Board.{Board, keeps}
-use Rattle.order.specs.Reordering.{link_must_be, backward}
+use Rattle.order.specs.Reordering.{backward, link_must_be}
 use Rattle.command.specs.Commands.{must_be}
 use Rattle.order.proofs.Filters.{same_is}
 use Rattle.batch.specs.Several.{linked_on, Becomes}

@@ -1,6 +1,7 @@
 -- The promise, from the memory's meaning that each saying keeps; the memory's length and its small numbers are had for nothing.
 use Rattle.std.proofs.Common.{◌≡◌, ℕ, zero, suc, ◌≤◌, true, eqb, ltb, List, [], ◌∷◌, length, Some, None, refl, ◌∙◌, arith}
 use Rattle.std.proofs.lemmas.Bool.{and_parts, eqb-true}
+use Rattle.order.specs.declared.board.TheConstants.{LINKS}
 use Rattle.order.specs.declared.board.Refusal.{Refusal}
 use Rattle.order.specs.Lists.{every}
 use Rattle.order.specs.Board.{Board}
@@ -16,7 +17,7 @@ use Rattle.batch.specs.Promise.{small_saying, Steady, refused_for, after, Done, 
 -- the memory means the board, which has no more links than it may
 pub record Keeps (m : List ℕ) (r : Board) : Type 0 where
   pub means : Means m r
-  pub few : length r.links ≤ 65536
+  pub few : length r.links ≤ LINKS
 
 -- one saying, from one memory and board on, is done or refused rightly, and keeps that
 abbrev pub StepKept : Engine → ℕ → List ℕ → Board → Saying → Type 0

@@ -5,15 +5,15 @@ use Rattle.order.specs.declared.board.Link.{Link}
 use Rattle.order.specs.Lists.{every}
 use Rattle.order.specs.Board.{Board}
 use Rattle.memory.specs.Columns.{cell}
-use Rattle.row.specs.Layout.{ids, chain}
+use Rattle.row.specs.declared.layout.TheConstants.{IDS, CHAIN}
 use Rattle.memory.specs.Options.{given}
 use Rattle.row.specs.Lookup.{found}
 use Rattle.row.specs.Meaning.{used, row_of}
 use Rattle.order.specs.Renaming.{named, renamed}
-use Rattle.row.proofs.Present.{found_there}
 use Rattle.row.proofs.Named.{row_used}
+use Rattle.row.proofs.Present.{found_there}
 use Rattle.order.proofs.RenamesLinks.{Known}
-use Rattle.links.specs.Meaning.{edges}
+use Rattle.links.specs.Table.{edges}
 use Rattle.search.specs.Meaning.{slot_board}
 use Rattle.batch.proofs.LookUps.{found_alike}
 use Rattle.keeper.specs.Meaning.{Means}
@@ -39,15 +39,15 @@ abbrev pub slot_of : List ℕ → ℕ → ℕ
 slot_of m k = given (found m k) 0 (λ s. s)
 
 -- two memories with the same look-up
-module _ (m m' : List ℕ) (same_ids : (j : ℕ) → cell m' ids j ≡ cell m ids j) (same_chain : (j : ℕ) → cell m' chain j ≡ cell m chain j) where
+module _ (m m' : List ℕ) (same_ids : (j : ℕ) → cell m' IDS j ≡ cell m IDS j) (same_chain : (j : ℕ) → cell m' CHAIN j ≡ cell m CHAIN j) where
   slot_same : (k : ℕ) → slot_of m k ≡ slot_of m' k
   slot_same k = ap (λ (o : Option ℕ). given o 0 (λ s. s)) (sym (found_alike m m' same_ids same_chain k))
 
   pub slots_back : (r : Board) → Means m' r → renamed (slot_of m) r ≡ slot_board m'
   slots_back r M =
       let R = M.ready in
-      let back : (s : ℕ) → used m' s ≡ true → slot_of m (cell m' ids s) ≡ s = λ s u. slot_same (cell m' ids s) ∙ rw (found_there m' R.stands s u) refl in
+      let back : (s : ℕ) → used m' s ≡ true → slot_of m (cell m' IDS s) ≡ s = λ s u. slot_same (cell m' IDS s) ∙ rw (found_there m' R.is_row s u) refl in
       ap (renamed (slot_of m)) M.is
       ∙ ap₂ (λ (xs : List ℕ) (ls : List Link). record { row = xs; links = ls })
-      (row_back (cell m' ids) (slot_of m) (used m') back (row_of m') (row_used m' R.stands))
-      (links_back (cell m' ids) (slot_of m) (used m') back (edges m') (ends_used m' R))
+      (row_back (cell m' IDS) (slot_of m) (used m') back (row_of m') (row_used m' R.is_row))
+      (links_back (cell m' IDS) (slot_of m) (used m') back (edges m') (ends_used m' R))

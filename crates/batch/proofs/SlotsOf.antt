@@ -3,14 +3,15 @@ use Rattle.std.proofs.Common.{◌≡◌, ℕ, Bool, true, false, List, [], ◌�
 use Rattle.std.proofs.lemmas.Bool.{cases_Bool, both_ways, and_parts, and_from}
 use Rattle.order.specs.Lists.{every, has, distinct}
 use Rattle.memory.specs.Columns.{cell}
-use Rattle.row.specs.Layout.{ids}
-use Rattle.row.specs.Meaning.{row_of, cards, used, Stands}
+use Rattle.row.specs.declared.layout.TheConstants.{IDS}
+use Rattle.row.specs.Meaning.{row_of, cards, used}
 use Rattle.order.proofs.Filters.{every_has}
 use Rattle.order.proofs.RenamesLists.{has_map, distinct_map}
-use Rattle.row.proofs.Present.{finds, apart}
-use Rattle.row.proofs.Named.{row_used, cards_named}
+use Rattle.row.proofs.Present.{finds}
 use Rattle.batch.specs.Rule.{sorted}
 use Rattle.batch.specs.Arranging.{slot_of}
+use Rattle.batch.specs.Dense.{Dense}
+use Rattle.batch.proofs.Denseness.{row_used, cards_once}
 use Rattle.batch.proofs.Within.{every_in}
 use Rattle.batch.proofs.Sorts.{has_sorted, distinct_sorted}
 
@@ -26,9 +27,9 @@ module _ (f : ℕ → ℕ) (D : ℕ → Bool) (tell : (j k : ℕ) → D j ≡ tr
     | inr i ↦ not_there xs s d i ∙ sym (not_there ys s e i)
   ]
 
-module _ (m : List ℕ) (S : Stands m) where
-  one_slot_of : (k : ℕ) → has (cards m) k ≡ true → (used m (slot_of m k) ≡ true) × (cell m ids (slot_of m k) ≡ k)
-  one_slot_of k h = let w = (finds m k S).2 h in rw w.1 (w.2, w.3)
+module _ (m : List ℕ) (D : Dense m) where
+  one_slot_of : (k : ℕ) → has (cards m) k ≡ true → (used m (slot_of m k) ≡ true) × (cell m IDS (slot_of m k) ≡ k)
+  one_slot_of k h = let w = (finds m k D.is_row).2 h in rw w.1 (w.2, w.3)
 
   slots_used : (ks : List ℕ) → every (has (cards m)) ks ≡ true → every (used m) (map (slot_of m) ks) ≡ true
   unfolding every
@@ -37,7 +38,7 @@ module _ (m : List ℕ) (S : Stands m) where
       let p = and_parts (has (cards m) k) (every (has (cards m)) ks) h in
       and_from _ _ (one_slot_of k p.0).0 (slots_used ks p.1)
 
-  slots_cards : (ks : List ℕ) → every (has (cards m)) ks ≡ true → map (cell m ids) (map (slot_of m) ks) ≡ ks
+  slots_cards : (ks : List ℕ) → every (has (cards m)) ks ≡ true → map (cell m IDS) (map (slot_of m) ks) ≡ ks
   unfolding every
   slots_cards [] h = refl
   slots_cards (k ∷ ks) h =
@@ -51,15 +52,15 @@ module _ (m : List ℕ) (S : Stands m) where
   all_cards : every (has (cards m)) (sorted (cards m)) ≡ true
   all_cards = every_in (has (cards m)) (sorted (cards m)) (λ k h. sym (has_sorted (cards m) k) ∙ h)
 
-  pub order_cards : map (cell m ids) in_order ≡ sorted (cards m)
+  pub order_cards : map (cell m IDS) in_order ≡ sorted (cards m)
   order_cards = slots_cards (sorted (cards m)) all_cards
 
   pub order_once : distinct in_order ≡ true
   order_once =
-      sym (distinct_map (cell m ids) (used m) S.stands.one_slot in_order (slots_used (sorted (cards m)) all_cards))
-      ∙ ap distinct order_cards ∙ distinct_sorted (cards m) ∙ apart m S
+      sym (distinct_map (cell m IDS) (used m) D.is_row.stands.one_slot in_order (slots_used (sorted (cards m)) all_cards))
+      ∙ ap distinct order_cards ∙ distinct_sorted (cards m) ∙ cards_once m D
 
   pub order_same : (s : ℕ) → has in_order s ≡ has (row_of m) s
   order_same =
-      has_by_names (cell m ids) (used m) S.stands.one_slot in_order (row_of m) (slots_used (sorted (cards m)) all_cards) (row_used m S)
-      (λ k. ap (λ (xs : List ℕ). has xs k) order_cards ∙ has_sorted (cards m) k ∙ ap (λ (xs : List ℕ). has xs k) (cards_named m))
+      has_by_names (cell m IDS) (used m) D.is_row.stands.one_slot in_order (row_of m) (slots_used (sorted (cards m)) all_cards) (row_used m D)
+      (λ k. ap (λ (xs : List ℕ). has xs k) order_cards ∙ has_sorted (cards m) k)

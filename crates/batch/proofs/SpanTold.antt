@@ -1,25 +1,26 @@
 -- A part of the row that a span names is told, and the memory then means the board that it meant before.
-use Rattle.std.proofs.Common.{◌≡◌, ℕ, ◌≤◌, true, List, [], length, sym, ap, ◌∙◌, subst, ap₂, arith}
+use Rattle.std.proofs.Common.{◌≡◌, ℕ, ◌^◌, ◌<◌, ◌≤◌, true, List, [], length, sym, refl, ap, ◌∙◌, subst, ap₂, arith}
+use Rattle.order.specs.declared.board.TheConstants.{CARDS}
 use Rattle.order.specs.Lists.{every}
 use Rattle.order.specs.Board.{Board}
 use Rattle.memory.specs.Columns.{cell, written}
 use Rattle.command.specs.Commands.{Told, told_rows}
-use Rattle.row.specs.Layout.{tally}
+use Rattle.memory.specs.Footprints.{Small}
+use Rattle.memory.proofs.Footprints.{same, on, put}
+use Rattle.row.proofs.Present.{length_cards, few_cards}
 use Rattle.row.specs.Meaning.{cards}
-use Rattle.memory.proofs.Cells.{cell_same, cell_other, length_written}
-use Rattle.row.proofs.Depending.{depends}
-use Rattle.row.proofs.Present.{length_cards}
+use Rattle.memory.proofs.Cells.{cell_same, cell_apart, length_written}
 use Rattle.search.specs.Meaning.{Ready}
+use Rattle.keeper.specs.declared.layout.TheConstants.{PENDING, MORE_FROM, MORE_TO}
+use Rattle.keeper.specs.Columns.{columns}
 use Rattle.keeper.specs.Engine.{ran}
 use Rattle.keeper.specs.Answers.{pending, leaves_pending}
 use Rattle.keeper.specs.Telling.{told_part}
 use Rattle.keeper.specs.Sister.{within}
 use Rattle.keeper.specs.Meaning.{Means}
-use Rattle.keeper.proofs.Knowing.{row_is}
-use Rattle.keeper.proofs.Carrying.{Noted, noted, noted_on}
-use Rattle.keeper.proofs.Noting.{noted_ready, settles, is_pending}
+use Rattle.keeper.proofs.Carrying.{Noted, noted, noted_ready, settles, is_pending, same_row}
 use Rattle.keeper.proofs.Parts.{Anew}
-use Rattle.keeper.proofs.ToldRuns.{from_first, told_run, went_more}
+use Rattle.keeper.proofs.ToldRuns.{from_first, ToldOut, told_run, went_more}
 use Rattle.batch.specs.declared.seating.Span.{Span}
 use Rattle.batch.specs.Saying.{noting, told_span}
 
@@ -32,54 +33,61 @@ pub record ToldSo (m : List ℕ) (b : Board) (s : Span) : Type 0 where
   pub makes : (row : List ℕ) → Anew row b.row s.low s.high → told_rows row parts ≡ b.row
   pub inside : every (within s.low s.high) parts ≡ true
 
-module _ (m : List ℕ) (b : Board) (M : Means m b) (s : Span) where
-  R : Ready m
+pub noting_writes : (m : List ℕ) (s : Span) → (Small m → s.low < 2 ^ 64) → (Small m → s.high < 2 ^ 64) → Noted m (noting m s)
+unfolding noting
+noting_writes m s low high =
+    let n = leaves_pending m 3 in
+    put columns m (written n MORE_FROM 0 s.low) MORE_TO 0 s.high refl high
+    (put columns m n MORE_FROM 0 s.low refl low (noted m m 3 (omega arith) (same columns m)))
+
+module _ (m : List ℕ) (b : Board) (M : Means m b) (s : Span) (up : s.low ≤ s.high) (low : s.high ≤ length b.row) where
+  abbrev R : Ready m
   R = M.ready
 
   abbrev k : List ℕ
   k = noting m s
 
-  N : Noted m k
-  unfolding noting
-  N =
-      noted_on m (written (leaves_pending m 3) tally 5 s.low) k
-      (noted_on m (leaves_pending m 3) (written (leaves_pending m 3) tally 5 s.low) (noted m 4 3 (omega arith)) (noted (leaves_pending m 3) 5 s.low (omega arith)))
-      (noted (written (leaves_pending m 3) tally 5 s.low) 6 s.high (omega arith))
+  room : length b.row ≤ CARDS
+  room = omega (arith, ap (λ (x : Board). length x.row) M.is, length_cards m R.is_row, few_cards m R.is_row)
 
-  long : 41240 ≤ length m
-  long = R.stands.long
+  N : Noted m k
+  N = noting_writes m s (λ _. omega (arith, up, low, room)) (λ _. omega (arith, low, room))
 
   is_more : pending k ≡ 3
   unfolding noting
-  is_more = cell_other _ tally 6 4 s.high (λ z. omega arith) ∙ cell_other _ tally 5 4 s.low (λ z. omega arith) ∙ is_pending m R 3
+  is_more =
+      let n = leaves_pending m 3 in
+      cell_apart (written n MORE_FROM 0 s.low) MORE_TO PENDING 0 0 s.high refl ∙ cell_apart n MORE_FROM PENDING 0 0 s.low refl ∙ is_pending m M.long 3
 
-  from_is : cell k tally 5 ≡ s.low
+  from_is : cell k MORE_FROM 0 ≡ s.low
   unfolding noting
   from_is =
-      cell_other _ tally 6 5 s.high (λ z. omega arith)
-      ∙ cell_same (leaves_pending m 3) tally 5 s.low (omega arith) (omega (arith, long, length_written m tally 4 3))
+      let n = leaves_pending m 3 in
+      cell_apart (written n MORE_FROM 0 s.low) MORE_TO MORE_FROM 0 0 s.high refl
+      ∙ cell_same n MORE_FROM 0 s.low (omega arith) (omega (arith, M.long, length_written m PENDING 0 3))
 
-  to_is : cell k tally 6 ≡ s.high
+  to_is : cell k MORE_TO 0 ≡ s.high
   unfolding noting
   to_is =
-      cell_same (written (leaves_pending m 3) tally 5 s.low) tally 6 s.high (omega arith)
-      (omega (arith, long, length_written m tally 4 3, length_written (leaves_pending m 3) tally 5 s.low))
+      let n = leaves_pending m 3 in
+      cell_same (written n MORE_FROM 0 s.low) MORE_TO 0 s.high (omega arith)
+      (omega (arith, M.long, length_written m PENDING 0 3, length_written n MORE_FROM 0 s.low))
 
   same_cards : cards k ≡ b.row
-  same_cards = (depends m k N.row).1 ∙ sym (row_is m R) ∙ ap (λ (x : Board). x.row) (sym M.is)
+  same_cards = (same_row columns m k N refl).same_cards ∙ ap (λ (x : Board). x.row) (sym M.is)
 
-  pub span_told : s.low ≤ s.high → s.high ≤ length b.row → ToldSo m b s
-  span_told up low =
-      let c = length_cards m R.stands in
-      let c₁ = ap length (row_is m R) in
-      let c₂ = ap (λ (x : Board). length x.row) M.is in
-      let c₃ = N.row.same_count in
-      let T = told_run k (noted_ready m k R N) s.low s.high up (omega arith) in
-      record {
-        memory = leaves_pending T.memory 0;
-        parts = T.parts;
-        run = ap from_first (went_more k is_more ∙ ap₂ (told_part k) from_is to_is) ∙ T.run;
-        means = subst (Means (leaves_pending T.memory 0)) (sym M.is) (settles m T.memory R M.single (noted_on m k T.memory N T.only));
-        makes = λ row a. T.makes row (subst (λ (xs : List ℕ). Anew row xs s.low s.high) (sym same_cards) a) ∙ same_cards;
-        inside = T.inside;
-      }
+  T : ToldOut k s.low s.high
+  T =
+      let S = (noted_ready m k R N).is_row in
+      let e = ap length same_cards in
+      told_run k S (omega (arith, M.long, N.as_long)) s.low s.high up (omega (arith, low, length_cards k S))
+
+  pub span_told : ToldSo m b s
+  span_told = record {
+    memory = leaves_pending T.memory 0;
+    parts = T.parts;
+    run = ap from_first (went_more k is_more ∙ ap₂ (told_part k) from_is to_is) ∙ T.run;
+    means = subst (Means (leaves_pending T.memory 0)) (sym M.is) (settles m T.memory R M.single M.long (on columns m k T.memory N T.only));
+    makes = λ row a. T.makes row (subst (λ (xs : List ℕ). Anew row xs s.low s.high) (sym same_cards) a) ∙ same_cards;
+    inside = T.inside;
+  }

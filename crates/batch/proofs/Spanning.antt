@@ -2,18 +2,20 @@
 use Rattle.std.proofs.Common.{◌≡◌, ℕ, ◌<◌, ◌≤◌, min, max, Bool, true, not, ◌&&◌, ◌||◌, ltb, leb, List, [], ◌∷◌, ◌++◌, length, sym, refl, ap, ◌∙◌, subst, inl, inr, arith, is_some, Some}
 use Rattle.std.proofs.lemmas.Bool.Decides.{nat_tests}
 use Rattle.std.proofs.lemmas.Bool.{cases_Bool, both_ways}
+use Rattle.order.specs.declared.board.TheConstants.{CARDS}
 use Rattle.order.specs.declared.board.Link.{Link}
 use Rattle.order.specs.Lists.{every, place}
 use Rattle.order.specs.Board.{Board, keeps}
 use Rattle.order.proofs.Climbs.{fine_parts}
 use Rattle.order.proofs.Filters.{every_append}
 use Rattle.order.proofs.Places.{place_below}
-use Rattle.row.proofs.Present.{length_cards}
+use Rattle.row.proofs.Present.{length_cards, few_cards}
 use Rattle.search.specs.Meaning.{Ready}
 use Rattle.keeper.specs.Meaning.{card_board}
-use Rattle.keeper.proofs.Knowing.{row_is, fine_cards}
+use Rattle.keeper.proofs.Knowing.{fine_cards}
 use Rattle.batch.specs.declared.seating.Span.{Span}
 use Rattle.batch.specs.declared.checking.Named.{Named}
+use Rattle.batch.specs.Dense.{Dense}
 use Rattle.batch.specs.Several.{all_there, first_named, past_named}
 use Rattle.batch.specs.Checking.{widened, spanned, no_span, moving}
 use Rattle.batch.specs.CheckLaws.{Names, Spans, SpanMoves}
@@ -36,12 +38,12 @@ first_past r l ls = omega arith
 either_way : (b k : Bool) (x y : ℕ) → ((b || leb y x) || not k) ≡ (b || not (ltb x y && k))
 either_way b k x y = grind (arith, nat_tests)
 
-module _ (m : List ℕ) (R : Ready m) where
+module _ (m : List ℕ) (R : Ready m) (D : Dense m) where
   abbrev r : Board
   r = card_board m
 
-  few : length r.row ≤ 8192
-  few = let S = R.stands.stands in omega (arith, ap length (row_is m R), length_cards m R.stands, S.few, S.room)
+  few : length r.row ≤ CARDS
+  few = omega (arith, length_cards m R.is_row, few_cards m R.is_row)
 
   -- a span that is widened to the places of a link's two cards on the board
   abbrev with_places : Link → Named → Named
@@ -60,7 +62,7 @@ module _ (m : List ℕ) (R : Ready m) where
       let h = there_parts r l ls t in
       let a = place_below r.row l.from h.0 in
       let b = place_below r.row l.to h.1 in
-      let e : spanned m (l ∷ ls) s ≡ spanned m ls (with_places l s) = ap (spanned m ls) (wider_so m R l h.0 h.1 s) in
+      let e : spanned m (l ∷ ls) s ≡ spanned m ls (with_places l s) = ap (spanned m ls) (wider_so m R l h.0 h.1 D s) in
       record {
         low = rw e (omega (arith, W.low, few));
         high = rw e (omega (arith, W.high, few));
@@ -88,11 +90,11 @@ module _ (m : List ℕ) (R : Ready m) where
       (omega (arith, w.low), omega (arith, w.high), p, q, n)
 
 pub spans : Spans
-spans m r ls M t =
+spans m r ls M D t =
     let Claim : Board → Type 0 = λ (b : Board).
     ((spanned m ls no_span).back ≡ not (keeps b.row (b.links ++ ls))) × ((spanned m ls no_span).back ≡ true → Names b ls (spanned m ls no_span).span) in
     let u = rw M.is at t in
-    subst Claim (sym M.is) (back_so m M.ready ls u, names_so m M.ready ls u)
+    subst Claim (sym M.is) (back_so m M.ready D ls u, names_so m M.ready D ls u)
 
 moving_some : (s : Named) → is_some (moving s) ≡ s.back
 unfolding moving
@@ -106,9 +108,9 @@ moving_back s x e = elim (cases_Bool s.back) [
 ]
 
 pub span_moves : SpanMoves
-span_moves m r ls M t =
+span_moves m r ls M D t =
     let s = spanned m ls no_span in
-    let S = spans m r ls M t in (
+    let S = spans m r ls M D t in (
       moving_some s ∙ S.0,
       λ x z. let b = moving_back s x z in subst (Names r ls) b.1 (S.1 b.0),
     )

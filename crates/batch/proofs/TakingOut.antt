@@ -3,33 +3,25 @@ use Rattle.std.proofs.Common.{◌≡◌, ℕ, Bool, true, false, not, List, [], 
 use Rattle.std.proofs.lemmas.Bool.{eq-eqb, and_parts}
 use Rattle.std.proofs.lemmas.Bool.Decides.{nat_tests}
 use Rattle.order.specs.declared.board.Link.{Link}
-use Rattle.command.specs.declared.command.Command.TheVariants.{Link as Links, Unlink as Unlinks}
 use Rattle.order.specs.Lists.{every, any, filter}
-use Rattle.order.specs.Board.{Board, ◌⟶◌, linked}
+use Rattle.order.specs.Board.{Board, linked}
 use Rattle.order.specs.Renaming.{named}
 use Rattle.memory.specs.Columns.{cell}
-use Rattle.row.specs.Layout.{ids}
+use Rattle.row.specs.declared.layout.TheConstants.{IDS}
 use Rattle.row.specs.Meaning.{used}
 use Rattle.order.proofs.Climbs.{fine_parts, link_ends}
-use Rattle.row.proofs.Depending.{depends}
 use Rattle.order.proofs.RenamesLinks.{Known, joins_map}
-use Rattle.links.specs.Entries.{joins}
-use Rattle.links.specs.Removing.{removed}
-use Rattle.links.specs.Meaning.{edges, once}
-use Rattle.links.proofs.Operating.{stays_once}
-use Rattle.links.proofs.Bounding.{writes_only}
+use Rattle.links.specs.Pairs.{joins}
+use Rattle.links.specs.Table.{edges, once}
 use Rattle.search.specs.Meaning.{Ready}
-use Rattle.keeper.specs.Promise.{small_command}
-use Rattle.keeper.specs.Answers.{pending}
 use Rattle.keeper.specs.Meaning.{card_board, Means}
-use Rattle.keeper.proofs.Knowing.{fine_cards, naming, ends_used}
-use Rattle.keeper.proofs.Carrying.{links_same, links_unmarked, ready_again}
-use Rattle.keeper.proofs.TwoCards.{Seated, has_row, seated, slots_there, linked_is}
-use Rattle.keeper.proofs.Unlinking.{law, fine_after, board_after}
+use Rattle.keeper.proofs.Knowing.{fine_cards, ends_used}
+use Rattle.keeper.proofs.TwoCards.{Seated, seated, slots_there, linked_is}
+use Rattle.keeper.proofs.Unlinking.{removed_means}
 use Rattle.batch.specs.Several.{with_links}
 use Rattle.batch.specs.Joining.{dropped, taken_out}
 use Rattle.batch.specs.UndoLaws.{TakesOut}
-use Rattle.links.proofs.Edging.{any_append}
+use Rattle.batch.proofs.Anys.{any_append}
 use Rattle.batch.proofs.Tries.{small_parts}
 
 -- a link that is there once, taken out of a list
@@ -63,43 +55,32 @@ once_named f D tell (x ∷ xs) h =
 once_cards : (m : List ℕ) (r : Board) → Means m r → once r.links ≡ true
 once_cards m r M =
     let R = M.ready in
-    ap (λ (b : Board). once b.links) M.is ∙ once_named (cell m ids) (used m) (naming m R).tell (edges m) (ends_used m R) ∙ M.single
+    ap (λ (b : Board). once b.links) M.is ∙ once_named (cell m IDS) (used m) R.is_row.stands.one_slot (edges m) (ends_used m R) ∙ M.single
 
 -- one link
 abbrev without : Board → Link → Board
 without r l = record { row = r.row; links = filter (λ y. not (joins l y)) r.links }
 
-module _ (m : List ℕ) (R : Ready m) (o : once (edges m) ≡ true) (i : pending m ≡ 0) (l : Link) (sm : small_command (Unlinks l) ≡ true)
-    (h : linked (card_board m) l.from l.to ≡ true) where
+module _ (m : List ℕ) (M : Means m (card_board m)) (l : Link) (h : linked (card_board m) l.from l.to ≡ true) where
+  abbrev R : Ready m
+  R = M.ready
+
   by_slots : (s t : ℕ) → Seated m l.from s → Seated m l.to t → Means (dropped m l) (without (card_board m) l)
   unfolding dropped
-  by_slots s t A B =
-      let x = s ⟶ t in
-      let m' = (removed m x).memory in
-      let only = (writes_only m).1 x in
-      let k = sym (linked_is m R l.from l.to s t A B) ∙ h in
-      let e = law m R o i l sm s t A B in
-      rw (slots_there m R l s t A B) (record {
-        ready = ready_again m m' R (links_unmarked m m' only) ((depends m m' (links_same m m' only)).0 R.stands) e.0 (fine_after m R o i l sm s t A B k);
-        single = ap once e.1 ∙ stays_once.2 _ (edges m) o;
-        idle = only.tallies 4 (λ z. omega arith) (λ z. omega arith) ∙ i;
-        is = board_after m R o i l sm s t A B k;
-      })
+  by_slots s t A B = rw (slots_there m R l s t A B) (removed_means m M l s t A B (sym (linked_is m R l.from l.to s t A B) ∙ h))
 
   drops : Means (dropped m l) (without (card_board m) l)
   drops =
       let r = card_board m in
       let p = link_ends r (fine_parts r (fine_cards m R)) l.from l.to h in
-      let A = seated m R l.from (sym (has_row m R l.from) ∙ p.0) in
-      let B = seated m R l.to (sym (has_row m R l.to) ∙ p.1) in
+      let A = seated m R l.from p.0 in
+      let B = seated m R l.to p.1 in
       by_slots A.0 B.0 A.1 B.1
 
-dropped_means : (m : List ℕ) (r : Board) (l : Link) → small_command (Links l) ≡ true → Means m r → linked r l.from l.to ≡ true →
-    Means (dropped m l) (without r l)
-unfolding small_command
-dropped_means m r l sm M h =
+dropped_means : (m : List ℕ) (r : Board) (l : Link) → Means m r → linked r l.from l.to ≡ true → Means (dropped m l) (without r l)
+dropped_means m r l M h =
     let e = M.is in
-    subst (λ (b : Board). Means (dropped m l) (without b l)) (sym e) (drops m M.ready M.single M.idle l sm (rw e at h))
+    subst (λ (b : Board). Means (dropped m l) (without b l)) (sym e) (drops m (subst (Means m) e M) l (rw e at h))
 
 -- all of them
 pub takes_out : TakesOut
@@ -111,4 +92,4 @@ takes_out m r (l ∷ ks) sm M =
     any_append (joins l) r.links (l ∷ ks) ∙ (let p = eq-eqb l.from l.from refl in let q = eq-eqb l.to l.to refl in grind arith) in
     takes_out (dropped m l) r ks s.1
     (subst (λ (ls : List Link). Means (dropped m l) (record { row = r.row; links = ls })) (one_out l r.links ks (once_cards m _ M))
-    (dropped_means m (with_links r (l ∷ ks)) l s.0 M here))
+    (dropped_means m (with_links r (l ∷ ks)) l M here))

@@ -6,7 +6,8 @@ use Rattle.command.specs.declared.command.Command.TheVariants.{Link as Links}
 use Rattle.order.specs.Lists.{every, any}
 use Rattle.order.specs.Board.{Board, ◌⟶◌, linked, leads, fine}
 use Rattle.order.specs.Reordering.{with_link, goes_round}
-use Rattle.links.proofs.Edging.{any_append}
+use Rattle.links.specs.declared.layout.TheConstants.{ENTRIES}
+use Rattle.batch.proofs.Anys.{any_append}
 use Rattle.keeper.specs.Promise.{small_command}
 use Rattle.keeper.specs.Meaning.{Means}
 use Rattle.keeper.proofs.Knowing.{fine_cards}
@@ -118,7 +119,7 @@ module _ (m : List ℕ) (r : Board) (l : Link) (ls : List Link) (i : ℕ) where
     }
 
 so_far : (m : List ℕ) (r : Board) (ls : List Link) (i : ℕ) → Means m r → every (λ l. small_command (Links l)) ls ≡ true → all_there r ls ≡ true →
-    said_before r ls ≡ false → length r.links + length ls ≤ 67584 → SoFar m r ls i
+    said_before r ls ≡ false → length r.links + length ls ≤ ENTRIES → SoFar m r ls i
 so_far m r [] i M sm t b h = none_left m r i M
 so_far m r (l ∷ ls) i M sm t b h =
     let p = there_parts r l ls t in

@@ -1,44 +1,59 @@
 -- Links that were tried are taken out again, and the row is seated as it was: the memory means the board that it meant before.
-use Rattle.std.proofs.Common.{None, ◌≡◌, ℕ, zero, suc, ◌+◌, ◌-◌, ◌≤◌, min, Bool, true, List, [], ◌∷◌, ◌++◌, length, take, refl, ◌∙◌, arith, Some}
+use Rattle.std.proofs.Common.{None, ◌≡◌, ℕ, zero, suc, ◌+◌, ◌-◌, ◌/◌, ◌%◌, ◌≤◌, min, Bool, true, ltb, List, [], ◌∷◌, ◌++◌, length, take, sym, refl, ap, ◌∙◌, arith, Some}
 use Rattle.std.proofs.lemmas.Bool.{and_parts, and_from}
+use Rattle.memory.specs.declared.column.TheConstants.{MEMORY}
+use Rattle.order.specs.declared.board.TheConstants.{CARDS}
 use Rattle.order.specs.declared.board.Link.{Link}
 use Rattle.command.specs.declared.command.Command.TheVariants.{Link as Links}
 use Rattle.order.specs.Lists.{every}
 use Rattle.order.specs.Board.{Board}
-use Rattle.row.specs.Layout.{ids, chain}
+use Rattle.memory.specs.declared.column.Column.{Column}
+use Rattle.memory.specs.Footprints.{clear, Writes, at_each}
+use Rattle.memory.proofs.Footprints.{less, after}
+use Rattle.row.specs.declared.layout.TheConstants.{COUNT, IDS, CHAIN, TAKEN}
+use Rattle.row.specs.Meaning.{digit, bit_set, IsRow}
+use Rattle.links.specs.Table.{columns as table}
 use Rattle.keeper.specs.Promise.{small_command}
 use Rattle.keeper.specs.Meaning.{Means}
 use Rattle.batch.specs.declared.seating.Span.{Span}
-use Rattle.batch.specs.Layout.{spare}
+use Rattle.batch.specs.declared.layout.TheConstants.{SPARE}
+use Rattle.batch.specs.Dense.{Dense}
 use Rattle.batch.specs.Several.{all_there, Becomes, first_named, past_named}
 use Rattle.batch.specs.Joining.{tried, taken_out}
 use Rattle.batch.specs.JoinLaws.{AllIn, Stopped}
 use Rattle.batch.specs.Seating.{reseated}
 use Rattle.batch.specs.Saying.{undone}
 use Rattle.batch.specs.UndoLaws.{put_aside, Covers, Undoes, UndoesNone}
-use Rattle.batch.proofs.Saving.{saves, saves_only}
+use Rattle.batch.proofs.Saving.{saves, saved_writes}
+use Rattle.batch.proofs.Denseness.{few}
 use Rattle.batch.proofs.Tries.{means_fine}
 use Rattle.batch.proofs.SeveralBetween.{several_between}
 use Rattle.batch.proofs.Ends.{SameEnds, ends_within}
-use Rattle.batch.proofs.Beside.{beside_on}
-use Rattle.batch.proofs.TriedFrames.{Else, Spared, spared_tried, spared_taken_out}
+use Rattle.batch.proofs.TriedFrames.{tried_columns, Trying, tried_writes, taken_out_writes}
 use Rattle.batch.proofs.TakingOut.{takes_out}
 use Rattle.batch.proofs.SeatedBack.{row_count, Aside, seated_back}
-use Rattle.batch.specs.Listing.{at_each}
 
 first_within : (r : Board) (ls : List Link) → first_named r ls ≤ length r.row
 unfolding first_named
 first_within r [] = omega arith
 first_within r (l ∷ ls) = omega (arith, first_within r ls)
 
+-- a row stays without gaps where nobody comes or goes
+still_dense : (fs : List Column) (m m' : List ℕ) → clear fs COUNT ≡ true → clear fs TAKEN ≡ true → Writes fs m m' → IsRow m' → Dense m → Dense m'
+unfolding bit_set
+still_dense fs m m' c t w R D = record {
+  is_row = R;
+  full = λ p. ap (λ (v : ℕ). digit v (p % 64)) (w.others TAKEN (p / 64) t) ∙ D.full p ∙ ap (ltb p) (sym (w.others COUNT 0 c));
+}
+
 -- the links that were put in are ks
-module _ (m : List ℕ) (r : Board) (ls ks : List Link) (s : Span) (row : List ℕ) (M : Means m r) (sm : every (λ l. small_command (Links l)) ks ≡ true)
-    (t : all_there r ks ≡ true) (long : length m ≡ 524288) (C : Covers s r ks) (b : Becomes r ks row) where
+module _ (m : List ℕ) (r : Board) (ls ks : List Link) (s : Span) (row : List ℕ) (M : Means m r) (D : Dense m) (sm : every (λ l. small_command (Links l)) ks ≡ true)
+    (t : all_there r ks ≡ true) (long : length m ≡ MEMORY) (C : Covers s r ks) (b : Becomes r ks row) where
   abbrev lo : ℕ
   lo = s.low
 
   abbrev size : ℕ
-  size = min s.high 8192 - lo
+  size = min s.high CARDS - lo
 
   abbrev m₁ : List ℕ
   m₁ = put_aside m s
@@ -49,37 +64,42 @@ module _ (m : List ℕ) (r : Board) (ls ks : List Link) (s : Span) (row : List �
   abbrev m₃ : List ℕ
   m₃ = taken_out m₂ ks
 
-  room : length r.row ≤ 8192
-  room = let S = M.ready.stands.stands in omega (arith, row_count m r M, S.few, S.room)
+  room : length r.row ≤ CARDS
+  room = omega (arith, row_count m r M, few m D)
 
-  few : lo + size ≤ length r.row
-  few = omega (arith, C.lower, first_within r ks, C.within)
+  inside : lo + size ≤ length r.row
+  inside = omega (arith, C.lower, first_within r ks, C.within)
 
   ends : SameEnds lo (lo + size) row r.row
   ends =
       let B = several_between r ks row (means_fine m r M) t b in
       ends_within lo (lo + size) (first_named r ks) (past_named r ks) row r.row C.lower (omega (arith, C.higher, C.within, room)) B.front B.rest
 
-  -- what stays as it was, while links are tried and taken out
-  spared : Spared m₁ m₃
-  spared = beside_on Else m₁ m₂ m₃ (spared_tried m₁ ls 0) (spared_taken_out m₂ ks)
+  -- what is written, while links are tried and taken out
+  tried_frame : Trying m₁ m₃
+  tried_frame = after tried_columns table m₁ m₂ m₃ refl (taken_out_writes m₂ ks) (tried_writes m₁ ls 0)
 
-  aside : Aside m m₃ lo size
-  aside =
-      let o = (saves_only m lo size).0 in
-      record {
-        same_ids = λ j. spared.others ids j (refl, refl, refl, refl, refl, refl, refl) ∙ o.others ids j refl;
-        same_chain = λ j. spared.others chain j (refl, refl, refl, refl, refl, refl, refl) ∙ o.others chain j refl;
-        aside = λ p l u.
-            spared.others spare p (refl, refl, refl, refl, refl, refl, refl)
-            ∙ (saves m lo size (omega arith)).0 p l u (omega (arith, few, room));
-      }
+  frame : Writes (SPARE ∷ tried_columns) m m₃
+  frame =
+      after (SPARE ∷ tried_columns) tried_columns m m₁ m₃ refl tried_frame
+      (less (SPARE ∷ tried_columns) (SPARE ∷ []) m m₁ refl (saved_writes m lo size))
 
-  pub undone_so : Means m₂ (record { row = row; links = r.links ++ ks }) → Means (undone m₂ ks (Some s)) r
-  unfolding undone
-  undone_so M₂ =
-      seated_back m m₃ r row lo size M (takes_out m₂ (record { row = row; links = r.links }) ks sm M₂) aside few ends
-      (several_between r ks row (means_fine m r M) t b).same_cards
+  module _ (M₂ : Means m₂ (record { row = row; links = r.links ++ ks })) where
+    M₃ : Means m₃ (record { row = row; links = r.links })
+    M₃ = takes_out m₂ (record { row = row; links = r.links }) ks sm M₂
+
+    aside : Aside m m₃ lo size
+    aside = record {
+      dense = D;
+      dense_since = still_dense (SPARE ∷ tried_columns) m m₃ refl refl frame M₃.ready.is_row D;
+      same_ids = λ j. frame.others IDS j refl;
+      same_chain = λ j. frame.others CHAIN j refl;
+      aside = λ p l u. tried_frame.others SPARE p refl ∙ (saves m lo size (omega arith)).0 p l u (omega (arith, inside, room));
+    }
+
+    pub undone_so : Means (undone m₂ ks (Some s)) r
+    unfolding undone
+    undone_so = seated_back m m₃ r row lo size M M₃ aside inside ends (several_between r ks row (means_fine m r M) t b).same_cards
 
 -- what is so of links is so of the first of them
 every_front : (f : Link → Bool) (n : ℕ) (ls : List Link) → every f ls ≡ true → every f (take n ls) ≡ true
@@ -97,22 +117,22 @@ covers_front s r (suc n) (l ∷ ls) C =
     record { lower = omega (arith, C.lower, ih.lower); higher = omega (arith, C.higher, ih.higher); within = C.within }
 
 pub undoes : Undoes
-undoes m r ls n s row M sm t long C b =
-    undone_so m r ls (take n ls) s row M (every_front _ n ls sm) (every_front _ n ls t) long (covers_front s r n ls C) b
+undoes m r ls n s row M D sm t long C b =
+    undone_so m r ls (take n ls) s row M D (every_front _ n ls sm) (every_front _ n ls t) long (covers_front s r n ls C) b
 
 -- links that were all put in, and links of which one goes round
-module _ (m : List ℕ) (r : Board) (ls : List Link) (s : Span) (M : Means m r) (sm : every (λ l. small_command (Links l)) ls ≡ true)
-    (t : all_there r ls ≡ true) (long : length m ≡ 524288) (C : Covers s r ls) where
+module _ (m : List ℕ) (r : Board) (ls : List Link) (s : Span) (M : Means m r) (D : Dense m) (sm : every (λ l. small_command (Links l)) ls ≡ true)
+    (t : all_there r ls ≡ true) (long : length m ≡ MEMORY) (C : Covers s r ls) where
   pub undoes_all : AllIn (put_aside m s) r ls → Means (undone (tried (put_aside m s) ls 0).memory ls (Some s)) r
-  undoes_all A = undone_so m r ls ls s A.row M sm t long C A.becomes A.means
+  undoes_all A = undone_so m r ls ls s A.row M D sm t long C A.becomes A.means
 
   pub undoes_stopped : Stopped (put_aside m s) r ls →
       Means (undone (tried (put_aside m s) ls 0).memory (take (tried (put_aside m s) ls 0).count ls) (Some s)) r
-  undoes_stopped S = undoes m r ls (tried (put_aside m s) ls 0).count s S.row M sm t long C S.becomes S.means
+  undoes_stopped S = undoes m r ls (tried (put_aside m s) ls 0).count s S.row M D sm t long C S.becomes S.means
 
 pub undoes_none : UndoesNone
 unfolding undone reseated at_each
 undoes_none m r ls None sm e M = takes_out m r ls sm M
 undoes_none m r ls (Some s) sm e M =
     let h : s.high ≤ s.low = e s refl in
-    let z : min s.high 8192 - s.low ≡ 0 = omega arith in rw z (takes_out m r ls sm M)
+    let z : min s.high CARDS - s.low ≡ 0 = omega arith in rw z (takes_out m r ls sm M)

@@ -2,21 +2,24 @@
 use Rattle.std.proofs.Common.{Err, ◌≡◌, ℕ, ◌≤◌, true, eqb, List, length, replicate, refl, ◌∙◌, inl, inr, arith}
 use lib.ListN.{length-replicate}
 use Rattle.std.proofs.lemmas.Bool.{cases_Bool}
+use Rattle.memory.specs.declared.column.TheConstants.{MEMORY}
 use Rattle.keeper.specs.declared.event.Event.TheVariants.{Said, Next}
 use Rattle.keeper.specs.declared.event.Reason.TheVariants.{Unfit}
 use Rattle.keeper.specs.Answers.{Answer, quiet, ends, pending}
 use Rattle.keeper.specs.Promise.{Steady as KeeperSteady}
 use Rattle.keeper.specs.Sized.{KeepsSize, fits, small_event}
 use Rattle.order.specs.Lists.{every}
-use Rattle.row.specs.Layout.{tally, count}
-use Rattle.keeper.proofs.Size.{small_cell, size_same, size_written}
-use Rattle.keeper.proofs.OwnSize.{size_pending, Sized, sized_cond, sized_then, sized_on, sized_busy, sized_answer, own_steady}
+use Rattle.memory.proofs.Cells.{small_cell}
+use Rattle.row.specs.declared.layout.TheConstants.{COUNT}
+use Rattle.keeper.proofs.Size.{size_same, size_writes}
+use Rattle.keeper.proofs.OwnSize.{Sized, sized_cond, sized_then, sized_on, sized_busy, sized_answer, own_steady}
 use Rattle.keeper.proofs.Wholly.{at_start}
 use Rattle.batch.specs.Saying.{noting, told_span}
 use Rattle.batch.specs.Tidying.{tidied}
 use Rattle.batch.specs.Engine.{one, several, anew, Heard, said, next}
 use Rattle.batch.specs.Promise.{small_saying, small_heard, Steady, WholeIn, Fits}
 use Rattle.batch.specs.Own.{whole_row, said_anew, when_idle, answer, guarded, own}
+use Rattle.batch.proofs.SpanTold.{noting_writes}
 use Rattle.batch.proofs.SaidSize.{sized_several}
 use Rattle.batch.proofs.TidySize.{tidies_only}
 use Rattle.batch.proofs.Simulation.{Kept, whole_in}
@@ -34,11 +37,9 @@ unfolding when_idle
 sized_idle m a s = sized_cond m (eqb (pending m) 0) a _ s (sized_busy m)
 
 sized_row : (m : List ℕ) → Sized m (told_span m (whole_row m))
-unfolding noting
 sized_row m =
-    sized_then m (noting m (whole_row m))
-    (size_written m _ tally 6 (count m) (small_cell m tally 0) (size_written m _ tally 5 0 (λ _. omega arith) (size_pending m m 3 (omega arith) (size_same m))))
-    _ (sized_on (noting m (whole_row m)))
+    let n = noting m (whole_row m) in
+    sized_then m n (size_writes _ m n (noting_writes m (whole_row m) (λ _. omega arith) (small_cell m COUNT 0))) _ (sized_on n)
 
 sized_anew : (m : List ℕ) → Sized m (said_anew m)
 unfolding said_anew
@@ -58,13 +59,13 @@ keeps_size m h = elim (cases_Bool (small_heard h)) [
   | inr z ↦ rw z (size_same m)
 ]
 
-steady_from : (start : List ℕ) → length start ≤ 524288 → every (λ m. eqb m 0) start ≡ true → Steady (record { start = start; step = guarded })
+steady_from : (start : List ℕ) → length start ≤ MEMORY → every (λ m. eqb m 0) start ≡ true → Steady (record { start = start; step = guarded })
 unfolding Steady
 steady_from start l z = (l, z, keeps_size)
 
 steady : Steady own
 unfolding KeeperSteady
-steady = steady_from (replicate 524288 0) own_steady.0 own_steady.1
+steady = steady_from (replicate MEMORY 0) own_steady.0 own_steady.1
 
 pub own_fits : Fits own
 unfolding guarded fits
@@ -77,8 +78,8 @@ own_fits m h s = elim (cases_Bool (small_heard h)) [
 pub each : Kept own 3
 unfolding small_saying
 each m r (one c) l a K z = command_kept m r c l a K z
-each m r (several ls) l a K z = several_links_kept m r ls (l ∙ length-replicate {A = ℕ} 524288 0) K z
-each m r anew l a K z = anew_kept m r (l ∙ length-replicate {A = ℕ} 524288 0) K
+each m r (several ls) l a K z = several_links_kept m r ls (l ∙ length-replicate {A = ℕ} MEMORY 0) K z
+each m r anew l a K z = anew_kept m r (l ∙ length-replicate {A = ℕ} MEMORY 0) K
 
 pub whole_in_own : WholeIn 3 own
 whole_in_own = whole_in own steady 3 each at_start

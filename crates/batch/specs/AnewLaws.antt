@@ -8,28 +8,31 @@
 --   MakesAnew                 with memory and output that fit, it ends so, whatever stood in the memory
 --   MakesUnfit                if they don't fit, it is refused, and nothing changes
 use Rattle.std.specs.Prelude.{◌≡◌, ℕ, ◌≤◌, true, false, cond, ◌&&◌, List, [], ◌∷◌, ◌++◌, length, drop, Some, None, Ok, Err, Option, ◌≢◌, nat_le}
+use Rattle.order.specs.declared.board.TheConstants.{CARDS, LINKS}
 use Rattle.order.specs.declared.board.Link.{Link}
 use Rattle.order.specs.declared.board.Refusal.{Refusal}
 use Rattle.order.specs.declared.board.Refusal.TheVariants.{Missing, Exists, Full}
 use Rattle.order.specs.Lists.{every, has}
 use Rattle.memory.specs.Options.{given}
 use Rattle.keeper.specs.declared.event.Reason.TheVariants.{Unfit, Board}
+use Rattle.memory.specs.declared.column.TheConstants.{MEMORY}
+use Rattle.keeper.specs.declared.layout.TheConstants.{OUTPUT}
 use Rattle.keeper.specs.Own.{step_fits}
 use Rattle.batch.specs.declared.making_anew.Anew.TheVariants.{Row, Circle}
 use Rattle.batch.specs.Several.{circle}
 use Rattle.batch.specs.Rule.{anew}
 use Rattle.batch.specs.MakingAnew.{Made, made_anew}
 
--- at most 8,192 cards, no card twice
+-- at most CARDS cards, no card twice
 unfoldable pub cards_refusal : List ℕ → List ℕ → Option Refusal
 cards_refusal before [] = None
 cards_refusal before (k ∷ ks) =
-    cond (has before k) (Some Exists) (cond (nat_le 8192 (length before)) (Some Full) (cards_refusal (before ++ k ∷ []) ks))
+    cond (has before k) (Some Exists) (cond (nat_le CARDS (length before)) (Some Full) (cards_refusal (before ++ k ∷ []) ks))
 
--- links between these cards, at most 65,536
+-- links between these cards, at most LINKS
 unfoldable pub links_refusal : List ℕ → List Link → Option Refusal
 links_refusal row ls =
-    cond (every (λ l. has row l.from && has row l.to) ls) (cond (nat_le (length ls) 65536) None (Some Full)) (Some Missing)
+    cond (every (λ l. has row l.from && has row l.to) ls) (cond (nat_le (length ls) LINKS) None (Some Full)) (Some Missing)
 
 unfoldable pub row_refusal : List ℕ → List Link → Option Refusal
 row_refusal row ls = given (cards_refusal [] row) (links_refusal row ls) (λ e. Some e)
@@ -45,7 +48,7 @@ pub record Makes (row : List ℕ) (ls : List Link) (out : List ℕ) (x : Made) :
 
 abbrev pub MakesAnew : Type 0
 MakesAnew =
-    (m row : List ℕ) (ls : List Link) (out : List ℕ) → length m ≡ 524288 → 8192 ≤ length out → Makes row ls out (made_anew m row ls out)
+    (m row : List ℕ) (ls : List Link) (out : List ℕ) → length m ≡ MEMORY → OUTPUT ≤ length out → Makes row ls out (made_anew m row ls out)
 
 abbrev pub MakesUnfit : Type 0
 MakesUnfit =

@@ -5,20 +5,23 @@
 --
 --   FindsAll       the cards that the links name are found just if they are there
 --   Repeats        of links between cards that are there, one is repeated just if it was said before
---   Spans          a link goes backward just if the row doesn't keep them all; then what is spanned is the part of the row that the links name
+--   Spans          in a row without gaps, a link goes backward just if the row doesn't keep them all; then what is spanned is the part of the row that
+--                  the links name
 --   SpanMoves      so of the part of the row that may change: none, or the one that the links name
 use Rattle.std.specs.Prelude.{◌≡◌, ℕ, ◌<◌, ◌≤◌, true, not, List, [], ◌++◌, length, Some, is_some}
+use Rattle.order.specs.declared.board.TheConstants.{CARDS}
 use Rattle.order.specs.declared.board.Link.{Link}
 use Rattle.order.specs.Board.{Board, keeps}
 use Rattle.keeper.specs.Meaning.{Means}
 use Rattle.batch.specs.declared.seating.Span.{Span}
 use Rattle.batch.specs.Several.{all_there, said_before, first_named, past_named}
+use Rattle.batch.specs.Dense.{Dense}
 use Rattle.batch.specs.Checking.{all_found, repeated, spanned, no_span, span}
 
 abbrev pub Names : Board → List Link → Span → Type 0
 Names r ls s =
     (s.low ≡ first_named r ls) × (s.high ≡ past_named r ls) × (first_named r ls < past_named r ls) × (past_named r ls ≤ length r.row)
-    × (length r.row ≤ 8192)
+    × (length r.row ≤ CARDS)
 
 abbrev pub FindsAll : Type 0
 FindsAll = (m : List ℕ) (r : Board) (ls : List Link) → Means m r → all_found m ls ≡ all_there r ls
@@ -28,11 +31,11 @@ Repeats = (m : List ℕ) (r : Board) (ls : List Link) → Means m r → all_ther
 
 abbrev pub Spans : Type 0
 Spans =
-    (m : List ℕ) (r : Board) (ls : List Link) → Means m r → all_there r ls ≡ true →
+    (m : List ℕ) (r : Board) (ls : List Link) → Means m r → Dense m → all_there r ls ≡ true →
     ((spanned m ls no_span).back ≡ not (keeps r.row (r.links ++ ls)))
     × ((spanned m ls no_span).back ≡ true → Names r ls (spanned m ls no_span).span)
 
 abbrev pub SpanMoves : Type 0
 SpanMoves =
-    (m : List ℕ) (r : Board) (ls : List Link) → Means m r → all_there r ls ≡ true →
+    (m : List ℕ) (r : Board) (ls : List Link) → Means m r → Dense m → all_there r ls ≡ true →
     (is_some (span m ls) ≡ not (keeps r.row (r.links ++ ls))) × ((s : Span) → span m ls ≡ Some s → Names r ls s)

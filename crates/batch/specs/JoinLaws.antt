@@ -15,6 +15,7 @@ use Rattle.order.specs.Lists.{every, has}
 use Rattle.order.specs.Board.{Board, linked, keeps, leads}
 use Rattle.order.specs.Reordering.{with_link, goes_round}
 use Rattle.command.specs.Commands.{must_be}
+use Rattle.links.specs.declared.layout.TheConstants.{ENTRIES}
 use Rattle.keeper.specs.Promise.{small_command}
 use Rattle.keeper.specs.Meaning.{Means}
 use Rattle.batch.specs.Several.{all_there, after_link, with_links, said_before, closes, Becomes, circle}
@@ -36,7 +37,7 @@ pub record GoesRound (m : List ℕ) (r : Board) (l : Link) : Type 0 where
 abbrev pub Joins : Type 0
 Joins =
     (m : List ℕ) (r : Board) (l : Link) → Means m r → small_command (Links l) ≡ true → has r.row l.from ≡ true → has r.row l.to ≡ true →
-    linked r l.from l.to ≡ false → length r.links < 67584 →
+    linked r l.from l.to ≡ false → length r.links < ENTRIES →
     (leads r l.to l.from ≡ false → PutIn m r l) × (leads r l.to l.from ≡ true → GoesRound m r l)
 
 pub record AllIn (m : List ℕ) (r : Board) (ls : List Link) : Type 0 where
@@ -56,4 +57,4 @@ pub record Stopped (m : List ℕ) (r : Board) (ls : List Link) : Type 0 where
 abbrev pub Tries : Type 0
 Tries =
     (m : List ℕ) (r : Board) (ls : List Link) → Means m r → every (λ l. small_command (Links l)) ls ≡ true → all_there r ls ≡ true →
-    said_before r ls ≡ false → length r.links + length ls ≤ 67584 → (closes r ls ≡ false → AllIn m r ls) × (closes r ls ≡ true → Stopped m r ls)
+    said_before r ls ≡ false → length r.links + length ls ≤ ENTRIES → (closes r ls ≡ false → AllIn m r ls) × (closes r ls ≡ true → Stopped m r ls)

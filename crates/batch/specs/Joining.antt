@@ -16,10 +16,9 @@
 use Rattle.std.specs.Prelude.{◌≡◌, ℕ, ◌+◌, cond, List, [], ◌∷◌, length, Some, None, Ok, Err, Option, Result, ◌==◌, nat_lt}
 use Rattle.order.specs.declared.board.Link.{Link}
 use Rattle.memory.specs.Columns.{cell}
-use Rattle.row.specs.Layout.{places}
+use Rattle.row.specs.declared.layout.TheConstants.{SEATS}
 use Rattle.memory.specs.Options.{given}
-use Rattle.links.specs.Building.{inserted}
-use Rattle.links.specs.Removing.{removed}
+use Rattle.links.specs.Entries.{inserted, removed}
 use Rattle.search.specs.Hunt.{meeting}
 use Rattle.search.specs.Settle.{forgotten, settled}
 use Rattle.keeper.specs.Linking.{slots_found}
@@ -37,7 +36,7 @@ put_down m x = record { memory = inserted m x; way = None }
 
 unfoldable pub joined_slots : List ℕ → Link → Joined
 joined_slots m x =
-    cond (nat_lt (cell m places x.to) (cell m places x.from))
+    cond (nat_lt (cell m SEATS x.to) (cell m SEATS x.from))
     (given (meeting m x).answer (put_down (settled (meeting m x).memory) x) (λ y.
     record { memory = forgotten (meeting m x).memory; way = Some (round_cards (meeting m x).memory x y) }))
     (put_down m x)

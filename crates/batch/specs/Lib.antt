@@ -2,7 +2,6 @@ pub mod Several
 pub mod SeveralLaws
 pub mod Rule
 pub mod RuleLaws
-pub mod Layout
 pub mod Listing
 pub mod Joining
 pub mod JoinLaws
@@ -28,3 +27,6 @@ pub mod Loading
 pub mod Circling
 pub mod MakingAnew
 pub mod AnewLaws
+pub mod Along
+pub mod Columns
+pub mod Dense

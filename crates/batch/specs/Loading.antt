@@ -9,12 +9,13 @@
 --   links_come m ls    the links put in; refused if a card isn't there, or if there are too many
 --   loaded m ks ls     both
 use Rattle.std.specs.Prelude.{◌≡◌, ℕ, cond, List, [], ◌∷◌, length, Some, None, Ok, Err, Option, Result, nat_le}
+use Rattle.order.specs.declared.board.TheConstants.{LINKS}
 use Rattle.order.specs.declared.board.Link.{Link}
 use Rattle.order.specs.declared.board.Refusal.{Refusal}
 use Rattle.order.specs.declared.board.Refusal.TheVariants.{Missing, Full}
 use Rattle.memory.specs.Options.{given}
 use Rattle.row.specs.Moves.{came}
-use Rattle.links.specs.Building.{inserted}
+use Rattle.links.specs.Entries.{inserted}
 use Rattle.keeper.specs.Linking.{slots_found}
 use Rattle.batch.specs.Checking.{all_found}
 use Rattle.batch.specs.Joining.{unless}
@@ -46,7 +47,7 @@ put_all m ls = fold put_one m ls
 unfoldable pub links_come : List ℕ → List Link → Loaded
 links_come m ls =
     cond (all_found m ls)
-    (cond (nat_le (length ls) 65536) (record { memory = put_all m ls; refused = None }) (record { memory = m; refused = Some Full }))
+    (cond (nat_le (length ls) LINKS) (record { memory = put_all m ls; refused = None }) (record { memory = m; refused = Some Full }))
     (record { memory = m; refused = Some Missing })
 
 unfoldable pub loaded : List ℕ → List ℕ → List Link → Loaded

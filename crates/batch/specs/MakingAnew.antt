@@ -2,7 +2,7 @@
 --
 --   Made                    what is answered, or why it is refused; the memory and the output after it
 --   MadeSo x                what is answered is that, and the memory and the output after it
---   new_row m n             the first n slots in `spare`
+--   new_row m n             the first n slots in SPARE
 --   shown_row m n out       their cards shown
 --   shown_circle m ks out   the cards of the slots ks shown, as a circle
 --   ended m n out           one or the other, after n slots have come
@@ -12,7 +12,7 @@ use Rattle.std.specs.Prelude.{◌≡◌, ℕ, cond, List, map, length, replicate
 use Rattle.std.specs.List.{range_with_len}
 use Rattle.order.specs.declared.board.Link.{Link}
 use Rattle.memory.specs.Columns.{cell}
-use Rattle.row.specs.Layout.{count}
+use Rattle.row.specs.Meaning.{count}
 use Rattle.memory.specs.Options.{given}
 use Rattle.search.specs.Way.{over}
 use Rattle.keeper.specs.declared.event.Reason.{Reason}
@@ -20,7 +20,7 @@ use Rattle.keeper.specs.declared.event.Reason.TheVariants.{Unfit, Board}
 use Rattle.keeper.specs.Own.{step_fits}
 use Rattle.batch.specs.declared.making_anew.Anew.{Anew}
 use Rattle.batch.specs.declared.making_anew.Anew.TheVariants.{Row, Circle}
-use Rattle.batch.specs.Layout.{spare}
+use Rattle.batch.specs.declared.layout.TheConstants.{SPARE}
 use Rattle.batch.specs.Loading.{Loaded, loaded}
 use Rattle.batch.specs.Renewing.{renewed}
 use Rattle.batch.specs.Circling.{traced, round}
@@ -36,7 +36,7 @@ pub record MadeSo (x : Made) (r : Result Anew Reason) (m₁ out₁ : List ℕ) :
   pub out : out₁ ≡ x.out
 
 abbrev pub new_row : List ℕ → ℕ → List ℕ
-new_row m n = map (cell m spare) (range_with_len 0 n)
+new_row m n = map (cell m SPARE) (range_with_len 0 n)
 
 abbrev pub shown_row : List ℕ → ℕ → List ℕ → Made
 shown_row m n out = record { answer = Ok (Row n); memory = m; out = over m (new_row m n) n out }

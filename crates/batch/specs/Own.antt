@@ -4,11 +4,12 @@
 --   said_anew m        the row made anew, when nothing is pending
 --   when_idle m a      the answer a, if nothing is pending; else the saying is refused
 --   answer m h         a step
---   own                the engine: 524,288 zeros at the start, and the steps of `answer`; numbers that don't fit 64 bits are refused
+--   own                the engine: zeros at the start, and the steps of `answer`; numbers that don't fit 64 bits are refused
 --   StepSays           what the function `step` promises: it takes the engine's step, and tells its answer by the act and the front of the output; where
 --                      the memory or the output doesn't fit, nothing is changed
 use Rattle.std.specs.Prelude.{◌≡◌, ℕ, Bool, true, false, cond, List, replicate, Err, Result, ◌==◌}
-use Rattle.row.specs.Layout.{count}
+use Rattle.memory.specs.declared.column.TheConstants.{MEMORY}
+use Rattle.row.specs.Meaning.{count}
 use Rattle.keeper.specs.declared.event.Event.TheVariants.{Said, Next}
 use Rattle.keeper.specs.declared.event.Reason.{Reason}
 use Rattle.keeper.specs.declared.event.Reason.TheVariants.{Unfit, Busy}
@@ -46,7 +47,7 @@ unfoldable pub guarded : List ℕ → Heard → Step
 guarded m h = cond (small_heard h) (steps m h) (record { memory = m; action = refused (reason_number Unfit) })
 
 abbrev pub own : Engine
-own = record { start = replicate 524288 0; step = guarded }
+own = record { start = replicate MEMORY 0; step = guarded }
 
 -- the engine's step, told: the act with the numbers is its action, and the numbers stand at the front of the output
 pub record Taken (m : List ℕ) (h : Heard) (out₀ : List ℕ) (r : Result Act Reason) (m₁ out₁ : List ℕ) : Type 0 where

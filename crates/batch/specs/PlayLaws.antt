@@ -9,9 +9,12 @@
 --   PlaysShows       of a saying that is done, just what the promise names is shown; of links that would go round, a way by which they would; else nothing
 --   PlaysUnfit       where the memory or the output doesn't fit, the saying is refused, and nothing is changed
 use Rattle.std.specs.Prelude.{◌≡◌, ℕ, ◌≤◌, true, false, ◌≢◌, List, [], ◌∷◌, length, take, Some, None, Ok, Err}
+use Rattle.memory.specs.declared.column.TheConstants.{MEMORY}
+use Rattle.order.specs.declared.board.TheConstants.{LINKS}
 use Rattle.order.specs.declared.board.Refusal.{Refusal}
 use Rattle.order.specs.declared.board.Refusal.TheVariants.{Cycle}
 use Rattle.order.specs.Board.{Board, keeps}
+use Rattle.keeper.specs.declared.layout.TheConstants.{OUTPUT}
 use Rattle.keeper.specs.declared.event.Reason.TheVariants.{Unfit, Board as ByBoard}
 use Rattle.keeper.specs.Promise.{all_small}
 use Rattle.keeper.specs.Own.{step_fits}
@@ -26,8 +29,8 @@ DoneSo r s m = (b : Board) × Means m b × RowSo r s b.row × (keeps b.row b.lin
 
 abbrev pub Plays : Type 0
 Plays =
-    (m : List ℕ) (r : Board) (s : Saying) (out : List ℕ) → length m ≡ 524288 → all_small m ≡ true → Means m r → length r.links ≤ 65536 →
-    small_saying s ≡ true → 8192 ≤ length out →
+    (m : List ℕ) (r : Board) (s : Saying) (out : List ℕ) → length m ≡ MEMORY → all_small m ≡ true → Means m r → length r.links ≤ LINKS →
+    small_saying s ≡ true → OUTPUT ≤ length out →
     (refused_for r s ≡ None → ((played m (said s) out).answer.outcome ≡ Ok tt) × DoneSo r s (played m (said s) out).memory)
     × ((why : Refusal) → refused_for r s ≡ Some why →
     ((played m (said s) out).answer.outcome ≡ Err (ByBoard why)) × Means (played m (said s) out).memory r)
@@ -41,8 +44,8 @@ ShowsJust p (ks ∷ kss) = (kss ≡ []) × (p.answer.shown ≡ length ks) × (fr
 
 abbrev pub PlaysShows : Type 0
 PlaysShows =
-    (m : List ℕ) (r : Board) (s : Saying) (out : List ℕ) → length m ≡ 524288 → all_small m ≡ true → Means m r → length r.links ≤ 65536 →
-    small_saying s ≡ true → 8192 ≤ length out →
+    (m : List ℕ) (r : Board) (s : Saying) (out : List ℕ) → length m ≡ MEMORY → all_small m ≡ true → Means m r → length r.links ≤ LINKS →
+    small_saying s ≡ true → OUTPUT ≤ length out →
     (refused_for r s ≡ None → ShowsJust (played m (said s) out) (shown_so r s))
     × (refused_for r s ≡ Some Cycle →
     ShowsJust (played m (said s) out) (front (played m (said s) out) ∷ []) × RoundSo r s (front (played m (said s) out) ∷ []))

@@ -19,6 +19,7 @@
 --   WholeIn n e        the promise
 --   Fits e             each answer of the engine fits what carries it, whatever stands in its memory
 use Rattle.std.specs.Prelude.{◌≡◌, ℕ, zero, ◌≤◌, Bool, true, ◌≢◌, List, [], ◌∷◌, ◌++◌, length, Some, None, Option, nat_eq}
+use Rattle.memory.specs.declared.column.TheConstants.{MEMORY}
 use Rattle.order.specs.declared.board.Link.{Link}
 use Rattle.command.specs.declared.command.Command.TheVariants.{Link as Links}
 use Rattle.order.specs.declared.board.Refusal.{Refusal}
@@ -48,11 +49,11 @@ unfoldable pub small_heard : Heard → Bool
 small_heard (said s) = small_saying s
 small_heard next = true
 
--- The memory has at most 524,288 numbers, all 0 at the start. No step makes it longer or shorter, whatever stands in it, nor leaves in it a number that
+-- The memory has at most MEMORY numbers, all 0 at the start. No step makes it longer or shorter, whatever stands in it, nor leaves in it a number that
 -- does not fit 64 bits, if none was there.
 unfoldable pub Steady : Engine → Type 0
 Steady e =
-    (length e.start ≤ 524288) × (every (λ m. nat_eq m 0) e.start ≡ true)
+    (length e.start ≤ MEMORY) × (every (λ m. nat_eq m 0) e.start ≡ true)
     × ((m : List ℕ) (h : Heard) → (length (e.step m h).memory ≡ length m) × (all_small m ≡ true → all_small (e.step m h).memory ≡ true))
 
 abbrev pub refused_for : Board → Saying → Option Refusal

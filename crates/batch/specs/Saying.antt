@@ -8,16 +8,19 @@
 --   closed m ls o ks      what comes of links of which the one behind ls would go round by the way ks
 --   by_trial t ls o       one or the other, by how the links were tried
 --   rearranged m ls o     the links tried, with the part of the row put aside
---   said_several m ls     the links said at once, when nothing is pending
+--   said_several m ls     the links said at once, when nothing is pending: first the row is packed, and from then on seats are places
 use Rattle.std.specs.Prelude.{ℕ, ◌-◌, min, cond, List, [], length, take, Ok, Option, nat_le}
+use Rattle.order.specs.declared.board.TheConstants.{CARDS, LINKS}
 use Rattle.order.specs.declared.board.Link.{Link}
 use Rattle.order.specs.declared.board.Refusal.TheVariants.{Missing, Exists, Full}
 use Rattle.memory.specs.Options.{given}
-use Rattle.links.specs.Layout.{live}
+use Rattle.row.specs.Moves.{packed}
+use Rattle.links.specs.Entries.{live}
 use Rattle.keeper.specs.declared.event.Act.TheVariants.{Shows, Done}
 use Rattle.keeper.specs.declared.pending.Pending.TheVariants.{Round, More}
 use Rattle.keeper.specs.Answers.{Answer, quiet, ends, refuses, noted}
 use Rattle.keeper.specs.Own.{went_on}
+use Rattle.batch.specs.declared.layout.TheConstants.{BATCH}
 use Rattle.batch.specs.declared.seating.Span.{Span}
 use Rattle.batch.specs.Checking.{all_found, repeated, span}
 use Rattle.batch.specs.Joining.{Tried, tried, taken_out}
@@ -30,14 +33,14 @@ abbrev pub told_span : List ℕ → Span → Answer
 told_span m s = went_on (noting m s)
 
 unfoldable pub part_aside : List ℕ → Option Span → List ℕ
-part_aside m o = given o m (λ s. saved (min s.high 8192 - s.low) m s.low)
+part_aside m o = given o m (λ s. saved (min s.high CARDS - s.low) m s.low)
 
 unfoldable pub undone : List ℕ → List Link → Option Span → List ℕ
-undone m ls o = given o (taken_out m ls) (λ s. reseated (min s.high 8192 - s.low) (taken_out m ls) s.low)
+undone m ls o = given o (taken_out m ls) (λ s. reseated (min s.high CARDS - s.low) (taken_out m ls) s.low)
 
 unfoldable pub brought : List ℕ → List Link → Option Span → Answer
 brought m ls o =
-    cond (nat_le (live m) 65536) (given o (quiet (ends (Ok Done) m)) (λ s. told_span m s)) (quiet (refuses (undone m ls o) Full))
+    cond (nat_le (live m) LINKS) (given o (quiet (ends (Ok Done) m)) (λ s. told_span m s)) (quiet (refuses (undone m ls o) Full))
 
 abbrev pub closed : List ℕ → List Link → Option Span → List ℕ → Answer
 closed m ls o ks = record { act = Ok (Shows (length ks)); memory = noted (undone m ls o) Round; numbers = ks }
@@ -50,8 +53,8 @@ rearranged m ls o = by_trial (tried (part_aside m o) ls 0) ls o
 
 unfoldable pub said_several : List ℕ → List Link → Answer
 said_several m ls =
-    cond (nat_le (length ls) 256)
+    cond (nat_le (length ls) BATCH)
     (cond (all_found m ls)
-    (cond (repeated m [] ls) (quiet (refuses m Exists)) (rearranged m ls (span m ls)))
+    (cond (repeated m [] ls) (quiet (refuses m Exists)) (rearranged (packed m) ls (span (packed m) ls)))
     (quiet (refuses m Missing)))
     (quiet (refuses m Full))

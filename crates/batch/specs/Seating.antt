@@ -4,13 +4,13 @@
 --   reseated f m p   f places from p on given to the slots that were put aside for them
 use Rattle.std.specs.Prelude.{ℕ, List}
 use Rattle.memory.specs.Columns.{cell, written}
-use Rattle.row.specs.Layout.{slots}
-use Rattle.row.specs.Moves.{seated_in}
-use Rattle.batch.specs.Layout.{spare}
-use Rattle.batch.specs.Listing.{at_each}
+use Rattle.memory.specs.Footprints.{at_each}
+use Rattle.row.specs.declared.layout.TheConstants.{SLOTS}
+use Rattle.row.specs.Moves.{put_at}
+use Rattle.batch.specs.declared.layout.TheConstants.{SPARE}
 
 unfoldable pub saved : ℕ → List ℕ → ℕ → List ℕ
-saved f m p = at_each (λ m₁ q. written m₁ spare q (cell m₁ slots q)) f m p
+saved f m p = at_each (λ m₁ q. written m₁ SPARE q (cell m₁ SLOTS q)) f m p
 
 unfoldable pub reseated : ℕ → List ℕ → ℕ → List ℕ
-reseated f m p = at_each (λ m₁ q. seated_in m₁ q (cell m₁ spare q)) f m p
+reseated f m p = at_each (λ m₁ q. put_at m₁ q (cell m₁ SPARE q)) f m p

@@ -11,6 +11,7 @@
 --   past_named r ls        the place behind the last of these
 --   circle r ks            each of ks is linked to the next, the last to the first, and none is there twice
 use Rattle.std.specs.Prelude.{◌≡◌, ℕ, suc, ◌+◌, min, max, Bool, true, false, cond, ◌&&◌, ◌||◌, List, [], ◌∷◌, ◌++◌, length, Some, None, Option, nat_le}
+use Rattle.order.specs.declared.board.TheConstants.{LINKS}
 use Rattle.order.specs.declared.board.Link.{Link}
 use Rattle.command.specs.declared.command.Command.TheVariants.{Link as Links}
 use Rattle.order.specs.declared.board.Refusal.{Refusal}
@@ -19,6 +20,7 @@ use Rattle.order.specs.Lists.{every, has, place, distinct}
 use Rattle.order.specs.Board.{Board, linked, keeps, leads}
 use Rattle.order.specs.Reordering.{with_link, follows, last_of}
 use Rattle.command.specs.Commands.{must_be}
+use Rattle.batch.specs.declared.layout.TheConstants.{BATCH}
 
 abbrev pub all_there : Board → List Link → Bool
 all_there r ls = every (λ l. has r.row l.from && has r.row l.to) ls
@@ -40,13 +42,13 @@ unfoldable pub closes : Board → List Link → Bool
 closes r [] = false
 closes r (l ∷ ls) = leads r l.to l.from || closes (linked_on r l) ls
 
--- more than 256 links are not looked at; together there may be 65,536
+-- more links than BATCH are not looked at; together there may be LINKS
 unfoldable pub several_refusal : Board → List Link → Option Refusal
 several_refusal r ls =
-    cond (nat_le (length ls) 256)
+    cond (nat_le (length ls) BATCH)
     (cond (all_there r ls)
     (cond (said_before r ls) (Some Exists)
-    (cond (closes r ls) (Some Cycle) (cond (nat_le (length r.links + length ls) 65536) None (Some Full))))
+    (cond (closes r ls) (Some Cycle) (cond (nat_le (length r.links + length ls) LINKS) None (Some Full))))
     (Some Missing))
     (Some Full)
 

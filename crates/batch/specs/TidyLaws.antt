@@ -8,6 +8,7 @@
 --   TidiesOnly          the memory keeps its size, whatever stands in it
 use Rattle.std.specs.Prelude.{◌≡◌, ℕ, true, List, length}
 use Rattle.order.specs.Board.{Board, fine}
+use Rattle.memory.specs.declared.column.TheConstants.{MEMORY}
 use Rattle.keeper.specs.Sized.{KeepsSize}
 use Rattle.keeper.specs.Meaning.{Means}
 use Rattle.batch.specs.Rule.{Ruled, sorted}
@@ -23,7 +24,7 @@ pub record RowTidy (r : Board) (m' new : List ℕ) : Type 0 where
 
 abbrev pub Tidies : Type 0
 Tidies =
-    (m : List ℕ) (r : Board) → length m ≡ 524288 → Means m r → ((tidied m).all ≡ true) × ((new : List ℕ) × RowTidy r (tidied m).memory new)
+    (m : List ℕ) (r : Board) → length m ≡ MEMORY → Means m r → ((tidied m).all ≡ true) × ((new : List ℕ) × RowTidy r (tidied m).memory new)
 
 abbrev pub TidiesOnly : Type 0
 TidiesOnly = (m : List ℕ) → KeepsSize m (tidied m).memory

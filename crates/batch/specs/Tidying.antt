@@ -4,7 +4,8 @@
 --   tidied_by x   the row seated as it was made anew, if all cards came
 --   tidied m      the row tidied
 use Rattle.std.specs.Prelude.{ℕ, min, Bool, true, false, cond, List, nat_lt}
-use Rattle.row.specs.Layout.{count}
+use Rattle.order.specs.declared.board.TheConstants.{CARDS}
+use Rattle.row.specs.Meaning.{count}
 use Rattle.batch.specs.Seating.{reseated}
 use Rattle.batch.specs.Arranging.{arranged}
 use Rattle.batch.specs.Renewing.{Renewed, renewed}
@@ -15,7 +16,7 @@ pub record Tidied : Type 0 where
 
 abbrev pub tidied_by : Renewed → Tidied
 tidied_by x =
-    cond (nat_lt x.came (min (count x.memory) 8192)) (record { memory = x.memory; all = false })
+    cond (nat_lt x.came (min (count x.memory) CARDS)) (record { memory = x.memory; all = false })
     (record { memory = reseated x.came x.memory 0; all = true })
 
 unfoldable pub tidied : List ℕ → Tidied

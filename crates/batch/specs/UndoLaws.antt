@@ -7,10 +7,12 @@
 --
 --   SavesMeans      the row put aside is no part of what the memory means
 --   TakesOut        links that were put in last are taken out again: the memory means the board without them
---   Undoes          after links were tried, those that were put in are taken out, and the row is seated as it was: the memory means the board that it
+--   Undoes          after links were tried, of a row without gaps, those that were put in are taken out, and the row is seated as it was: the memory means the board that it
 --                   meant before
 --   UndoesNone      the same where the row stayed as it was, and no part of it was put aside
 use Rattle.std.specs.Prelude.{◌≡◌, ℕ, ◌-◌, ◌≤◌, min, true, List, ◌++◌, length, take, Some, Option}
+use Rattle.memory.specs.declared.column.TheConstants.{MEMORY}
+use Rattle.order.specs.declared.board.TheConstants.{CARDS}
 use Rattle.order.specs.declared.board.Link.{Link}
 use Rattle.command.specs.declared.command.Command.TheVariants.{Link as Links}
 use Rattle.order.specs.Lists.{every}
@@ -18,13 +20,14 @@ use Rattle.order.specs.Board.{Board}
 use Rattle.keeper.specs.Promise.{small_command}
 use Rattle.keeper.specs.Meaning.{Means}
 use Rattle.batch.specs.declared.seating.Span.{Span}
+use Rattle.batch.specs.Dense.{Dense}
 use Rattle.batch.specs.Several.{all_there, with_links, Becomes, first_named, past_named}
 use Rattle.batch.specs.Joining.{tried, taken_out}
 use Rattle.batch.specs.Seating.{saved}
 use Rattle.batch.specs.Saying.{undone}
 
 abbrev pub put_aside : List ℕ → Span → List ℕ
-put_aside m s = saved (min s.high 8192 - s.low) m s.low
+put_aside m s = saved (min s.high CARDS - s.low) m s.low
 
 pub record Covers (s : Span) (r : Board) (ls : List Link) : Type 0 where
   pub lower : s.low ≤ first_named r ls
@@ -41,8 +44,8 @@ TakesOut =
 -- n links were put in
 abbrev pub Undoes : Type 0
 Undoes =
-    (m : List ℕ) (r : Board) (ls : List Link) (n : ℕ) (s : Span) (row : List ℕ) → Means m r → every (λ l. small_command (Links l)) ls ≡ true →
-    all_there r ls ≡ true → length m ≡ 524288 → Covers s r ls → Becomes r (take n ls) row →
+    (m : List ℕ) (r : Board) (ls : List Link) (n : ℕ) (s : Span) (row : List ℕ) → Means m r → Dense m →
+    every (λ l. small_command (Links l)) ls ≡ true → all_there r ls ≡ true → length m ≡ MEMORY → Covers s r ls → Becomes r (take n ls) row →
     Means (tried (put_aside m s) ls 0).memory (record { row = row; links = r.links ++ take n ls }) →
     Means (undone (tried (put_aside m s) ls 0).memory (take n ls) (Some s)) r
 

@@ -1,5 +1,7 @@
 // The row put into the order of the cards' numbers, whatever the links are.
 ghost use Rattle.std.specs.Prelude.{◌≡◌};
+ghost use Rattle.memory.specs.Footprints.{Writes};
+ghost use Rattle.batch.specs.Columns.{arranging};
 ghost use Rattle.batch.specs.Arranging.{card_at, slot_at, arranged};
 
 use crate::layout::{NUMBERS, SPARE};
@@ -7,7 +9,7 @@ use crate::listing::fill;
 use crate::seating::{Span, row_len};
 use crate::sorting::sort_part;
 use memory::Memory;
-use row::{IDS, SLOTS, find};
+use row::{IDS, SLOTS, find, pack};
 
 // The number of the card at a place.
 #[tactic(auto, unfolding(crate::specs::Arranging::card_at))]
@@ -25,11 +27,13 @@ fn slot_at(memory: &Memory, i: u64) -> u64
     find(memory, NUMBERS.get(memory, i)).unwrap_or(0)
 }
 
-// Puts the row into the order of the cards' numbers.
-#[tactic(auto, unfolding(crate::specs::Arranging::arranged_by))]
+// Puts the row into the order of the cards' numbers. It is packed first, so that the places in use are the first.
+#[tactic(auto, using(crate::proofs::ArrangeFrames::arranged_wrote), unfolding(crate::specs::Arranging::arranged_by))]
 pub(crate) fn arrange(memory: &mut Memory)
-    ensures { memory.new ≡ arranged memory.old }
+    ensures is { memory.new ≡ arranged memory.old }
+    ensures wrote { Writes arranging memory.old memory.new }
 {
+    pack(memory);
     let n = row_len(memory);
     fill(memory, NUMBERS, 0..n, card_at);
     sort_part(memory, NUMBERS.base as usize, (NUMBERS.base + n) as usize);

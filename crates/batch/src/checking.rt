@@ -1,16 +1,16 @@
 // What is looked at before links are tried: whether their cards are there, whether one was said already, and which part of the row they name.
 ghost use Rattle.std.specs.Prelude.{◌≡◌, ◌||◌, []};
 ghost use Rattle.std.specs.List.{list_any};
-ghost use Rattle.links.specs.Entries.{joins};
+ghost use Rattle.links.specs.Pairs.{joins};
 ghost use Rattle.batch.specs.Checking.{all_found, known, repeated, widened, wider, spanned, no_span, span};
 
 use crate::seating::Span;
 use keeper::slots_of;
 use memory::Memory;
 use order::{CARDS, Link};
-use row::place_at;
+use row::seat_of;
 
-// The places from the first card that some links name to the last; and whether one of the links goes backward. One pass over the links finds both; the span
+// The seats from the first card that some links name to the last; and whether one of the links goes backward. One pass over the links finds both; the span
 // is told only if one of them does.
 #[derive(Clone, Copy)]
 struct Named {
@@ -28,7 +28,7 @@ impl Named {
         back: false,
     };
 
-    // Widened to two places, of one more link's first card and of its second.
+    // Widened to two seats, of one more link's first card and of its second.
     #[tactic(auto, unfolding(crate::specs::Checking::widened))]
     fn widened(self, first: u64, second: u64) -> Named
         ensures { result ≡ widened self first second }
@@ -75,7 +75,7 @@ pub(crate) fn repeats(memory: &Memory, batch: &[Link]) -> bool
         .any(|(i, link)| is_said(memory, &batch[..i], *link))
 }
 
-// What is named, widened to the places of a link's two cards.
+// What is named, widened to the seats of a link's two cards.
 #[tactic(auto, unfolding(crate::specs::Checking::wider))]
 fn widen(memory: &Memory, link: Link, named: Named) -> Named
     ensures { result ≡ wider memory.now link named }
@@ -83,7 +83,7 @@ fn widen(memory: &Memory, link: Link, named: Named) -> Named
     let Some(slots) = slots_of(memory, link) else {
         return named;
     };
-    named.widened(place_at(memory, slots.from), place_at(memory, slots.to))
+    named.widened(seat_of(memory, slots.from), seat_of(memory, slots.to))
 }
 
 // The part of the row from the first card that a link names to the last.

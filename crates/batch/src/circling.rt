@@ -5,12 +5,11 @@
 // come and is linked to it. LEAVES is a set of slots then: the column is there already, and its counts aren't needed any more.
 ghost use Rattle.std.specs.Prelude.{◌≡◌};
 ghost use Rattle.memory.specs.Columns.{cell};
-ghost use Rattle.batch.specs.Layout.{numbers};
 ghost use Rattle.batch.specs.Circling.{flagged, stays, noted, notes, traced, start, back, RoundSo};
 
 use crate::layout::{LEAVES, NUMBERS, SPARE};
 use crate::seating::row_len;
-use links::{ENTRIES, from_of, to_of, used};
+use links::{AGE, ALL, ENTRIES};
 use memory::Memory;
 use order::CARDS;
 use row::SLOTS;
@@ -35,30 +34,34 @@ fn stays(memory: &Memory, slot: u64) -> bool
     slot < CARDS && LEAVES.get(memory, slot) == 0
 }
 
-// Notes for the slot that the link of an entry goes into the one that it comes out of, if that hasn't come.
+// Notes for the slot that a link goes into the one that it comes out of, if that hasn't come. The link is a pair of slots in one number.
 #[tactic(auto, unfolding(crate::specs::Circling::noted))]
-fn note(memory: &mut Memory, entry: u64)
-    ensures { memory.new ≡ noted memory.old entry }
+fn note(memory: &mut Memory, pair: u64)
+    ensures { memory.new ≡ noted memory.old pair }
 {
-    let from = from_of(memory, entry);
+    let from = pair / CARDS;
     if stays(memory, from) {
-        let to = to_of(memory, entry);
-        NUMBERS.set(memory, to, from);
+        NUMBERS.set(memory, pair % CARDS, from);
     }
 }
 
 // Notes for each slot that a link of the table goes into one that such a link comes out of and that hasn't come, if there is one.
-#[tactic(auto, using(crate::proofs::PlaceByPlace::turns), unfolding(crate::specs::Circling::noted_all))]
+#[tactic(auto, using(crate::proofs::LinkByLink::turns))]
 fn note_all(memory: &mut Memory)
     ensures { memory.new ≡ notes memory.old }
 {
-    for entry in 0..used(memory).min(ENTRIES) {
-        note(memory, entry);
+    let mut place = ALL;
+    for _turn in 0..ENTRIES {
+        let Some(link) = AGE.follow(memory, place) else {
+            return;
+        };
+        note(memory, link.label);
+        place = AGE.node(link.held);
     }
 }
 
 // Notes which slots have come, after n have, and for each slot one that hasn't and is linked to it.
-#[tactic(auto, unfolding(crate::specs::Circling::traced, links::specs::Building::blanked))]
+#[tactic(auto, unfolding(crate::specs::Circling::traced))]
 fn trace(memory: &mut Memory, n: u64)
     ensures { memory.new ≡ traced memory.old n }
 {
@@ -79,7 +82,7 @@ fn first_left(memory: &Memory) -> u64
 
 // So many steps back from a slot that one is on a circle.
 fn go_back(memory: &Memory, first: u64) -> u64
-    ensures { result ≡ back (cell memory.now numbers) 8192 first }
+    ensures { result ≡ back (cell memory.now NUMBERS) CARDS first }
 {
     (0..CARDS).fold(first, |slot, _| NUMBERS.get(memory, slot))
 }

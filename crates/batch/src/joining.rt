@@ -6,7 +6,7 @@ use keeper::{Output, slots_of};
 use links::{insert, remove};
 use memory::Memory;
 use order::Link;
-use row::place_at;
+use row::seat_of;
 use search::{meet, settle, show_and_forget};
 
 // A link would go round: how many were put in before it, and how many cards at the front of the output are the way.
@@ -22,7 +22,7 @@ pub(crate) struct Round {
 fn join_slots(memory: &mut Memory, slots: Link, out: &mut Output) -> Result<(), u64>
     ensures { JoinedSo (joined_slots memory.old slots) out.old result memory.new out.new }
 {
-    if place_at(memory, slots.to) < place_at(memory, slots.from) {
+    if seat_of(memory, slots.to) < seat_of(memory, slots.from) {
         if let Some(joint) = meet(memory, slots) {
             return Err(show_and_forget(memory, slots, joint, out));
         }

@@ -30,10 +30,7 @@ pub use anew_laws::{makes_anew_stands, makes_unfit_stands};
 pub use check_laws::{finds_all_stands, repeats_stands, span_moves_stands, spans_stands};
 pub use event::Event;
 pub use making_anew::{Anew, make_anew};
-pub use memory_laws::{
-    renews_only_stands, renews_stands, reseats_only_stands, reseats_stands, saves_only_stands,
-    saves_stands,
-};
+pub use memory_laws::{columns_apart_stands, renews_stands, reseats_stands, saves_stands};
 pub use playing::play;
 pub use rule_laws::{
     anew_round_stands, anew_ruled_stands, kept_is_ruled_stands, ruled_cards_stands,
@@ -47,7 +44,7 @@ pub use stepping::step;
 pub use theory::{
     fits_stands, plays_shows_stands, plays_stands, plays_unfit_stands, whole_in_stands,
 };
-pub use tidy_laws::{arranges_only_stands, arranges_stands, tidies_only_stands, tidies_stands};
+pub use tidy_laws::{arranges_stands, tidies_only_stands, tidies_stands};
 pub use trying_laws::{
     joins_stands, saves_means_stands, takes_out_stands, tries_stands, undoes_none_stands,
     undoes_stands,

@@ -3,10 +3,10 @@ ghost use Rattle.std.specs.Prelude.{◌≡◌, length, replicate};
 ghost use Rattle.batch.specs.Loading.{LoadedSo, cards_come, put_one, put_all, links_come, loaded};
 
 use crate::checking::all_there;
-use keeper::{LINKS, slots_of};
+use keeper::slots_of;
 use links::insert;
 use memory::Memory;
-use order::{Link, Refusal};
+use order::{LINKS, Link, Refusal};
 use row::comes;
 
 // The cards come, one after the other, up to the first that is refused.

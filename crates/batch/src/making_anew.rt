@@ -2,8 +2,8 @@
 ghost use Rattle.std.specs.Prelude.{◌≡◌, ◌≤◌, length, replicate, Ok};
 ghost use Rattle.search.specs.Way.{over};
 ghost use Rattle.batch.specs.AnewLaws.{MakesAnew};
-ghost use Rattle.batch.specs.Loading.{loaded};
 ghost use Rattle.batch.specs.Renewing.{renewed};
+ghost use Rattle.batch.specs.Loading.{loaded};
 ghost use Rattle.batch.specs.MakingAnew.{MadeSo, new_row, ended, made, made_anew};
 
 use crate::circling::show_circle;
@@ -23,7 +23,7 @@ pub enum Anew {
     Circle(u64),
 }
 
-// Writes the cards of the first n slots in SPARE to the front of `out`. (`row::tell` tells from the row's own column, and refuses where the memory is short.)
+// Writes the cards of the first n slots in SPARE to the front of `out`. (`row::tell` tells from the row's own columns, and refuses where it doesn't fit.)
 // Tried as `(0..n).zip(out)`: a proof then knows nothing of what was written.
 fn show_row(memory: &Memory, n: u64, out: &mut [u64])
     requires { n ≤ length out.old }
@@ -38,7 +38,7 @@ fn show_row(memory: &Memory, n: u64, out: &mut [u64])
 // Makes the row of a memory anew, and shows it, or a circle. The output's length is asked for, and no type: a circle may be as long as the whole output.
 #[tactic(auto, unfolding(crate::specs::MakingAnew::ended))]
 fn finish(memory: &mut Memory, out: &mut [u64]) -> Anew
-    requires { 8192 ≤ length out.old }
+    requires { OUTPUT ≤ length out.old }
     ensures { MadeSo (ended (renewed memory.old).memory (renewed memory.old).came out.old) (Ok result) memory.new out.new }
 {
     let n = renew(memory);
@@ -49,15 +49,10 @@ fn finish(memory: &mut Memory, out: &mut [u64]) -> Anew
     Anew::Row(n)
 }
 
-// Fills the memory with cards and links, and makes the row anew.
+// Makes the row of these cards and links anew, in lent memory.
 #[tactic(auto, unfolding(crate::specs::MakingAnew::made))]
-fn fill_and_make(
-    memory: &mut Memory,
-    row: &[u64],
-    links: &[Link],
-    out: &mut [u64],
-) -> Result<Anew, Reason>
-    requires { 8192 ≤ length out.old }
+fn make(memory: &mut Memory, row: &[u64], links: &[Link], out: &mut [u64]) -> Result<Anew, Reason>
+    requires { OUTPUT ≤ length out.old }
     ensures { MadeSo (made (loaded (replicate (length memory.old) 0) row.now links.now) out.old) result memory.new out.new }
 {
     load(memory, row, links)?;
@@ -66,7 +61,7 @@ fn fill_and_make(
 
 // Makes the row anew by the rule, with these links: the row by the rule is written to the front of `out`, or a circle, if the links go round. Whatever
 // stood in the memory is gone then.
-#[tactic(auto, using(crate::proofs::Fitted::fitted, crate::proofs::MakesAnew::makes_anew))]
+#[tactic(auto, using(crate::proofs::MakesAnew::makes_anew, crate::proofs::MakingSteps::makings), unfolding(crate::specs::MakingAnew::made_anew))]
 pub fn make_anew(
     memory: &mut [u64],
     row: &[u64],
@@ -82,5 +77,5 @@ pub fn make_anew(
     if out.len() < OUTPUT {
         return Err(Reason::Unfit);
     }
-    fill_and_make(memory, row, links, out)
+    make(memory, row, links, out)
 }

@@ -1,23 +1,24 @@
 // The row made anew by the rule: again and again the first card comes that no card is linked to which hasn't come yet.
 //
-// For each slot it is counted how many links come into it from slots that haven't come, and the places of those for which there are none are marked,
-// so that the first mark is next. Each link is followed once, when the card that it comes out of comes.
-ghost use Rattle.std.specs.Prelude.{◌≡◌, ◌≤◌};
-ghost use Rattle.links.specs.declared.chain.Chain.TheVariants.{Out};
-ghost use Rattle.links.specs.Chains.{met, stepped};
+// The row is packed first, so that a card's seat is its place. For each slot it is counted how many links come into it from slots that haven't come, and
+// the places of those for which there are none are marked, so that the first mark is next. Each link is followed once, when the card that it comes out of
+// comes.
+ghost use Rattle.std.specs.Prelude.{◌≡◌, ◌≤◌, [], ◌∷◌};
+ghost use Rattle.memory.specs.Footprints.{Writes};
+ghost use Rattle.batch.specs.Columns.{renewing};
 ghost use Rattle.batch.specs.Renewing.{raised, counted, counts, freed, frees, cleared, prepared};
-ghost use Rattle.batch.specs.Renewing.{lessened, next_by, left_by, released, let_go, drawn, renewed};
+ghost use Rattle.batch.specs.Renewing.{lessened, released, let_go, drawn, drawn_all, renewed};
 
 use crate::layout::{LEAVES, SPARE, WAITS};
 use crate::seating::row_len;
-use links::{Chain, ENTRIES, Meeting, from_of, rebuild, take_step, to_of};
+use links::{AGE, ALL, ENTRIES, OUT};
 use memory::{Column, Memory};
 use order::CARDS;
-use row::{PLACES, SLOTS};
+use row::{SEATS, SLOTS, pack};
 use search::FORE;
 
 // Nothing is counted.
-#[tactic(auto, unfolding(crate::specs::Renewing::cleared, links::specs::Building::blanked))]
+#[tactic(auto, unfolding(crate::specs::Renewing::cleared))]
 fn clear(memory: &mut Memory)
     ensures { memory.new ≡ cleared memory.old }
 {
@@ -34,24 +35,27 @@ fn raise(memory: &mut Memory, counts: Column, slot: u64)
     counts.set(memory, slot, old.saturating_add(1));
 }
 
-// Counts the link of an entry, at both its ends.
+// Counts the link between a pair of slots, at both its ends.
 #[tactic(auto, unfolding(crate::specs::Renewing::counted))]
-fn count(memory: &mut Memory, entry: u64)
-    ensures { memory.new ≡ counted memory.old entry }
+fn count(memory: &mut Memory, pair: u64)
+    ensures { memory.new ≡ counted memory.old pair }
 {
-    let from = from_of(memory, entry);
-    let to = to_of(memory, entry);
-    raise(memory, WAITS, to);
-    raise(memory, LEAVES, from);
+    raise(memory, WAITS, pair % CARDS);
+    raise(memory, LEAVES, pair / CARDS);
 }
 
-// Counts the links of a table that has no dead entry.
-#[tactic(auto, using(crate::proofs::PlaceByPlace::turns), unfolding(crate::specs::Renewing::counted_all))]
+// Counts all links, the newest first. Each turn writes to the memory, which an iterator over the links would hold lent.
+#[tactic(auto, using(crate::proofs::LinkByLink::turns))]
 fn count_all(memory: &mut Memory)
     ensures { memory.new ≡ counts memory.old }
 {
-    for entry in 0..links::len(memory).min(ENTRIES) {
-        count(memory, entry);
+    let mut place = ALL;
+    for _turn in 0..ENTRIES {
+        let Some(link) = AGE.follow(memory, place) else {
+            return;
+        };
+        count(memory, link.label);
+        place = AGE.node(link.held);
     }
 }
 
@@ -61,7 +65,7 @@ fn free(memory: &mut Memory, slot: u64)
     ensures { memory.new ≡ freed memory.old slot }
 {
     if WAITS.get(memory, slot) == 0 {
-        let place = PLACES.get(memory, slot);
+        let place = SEATS.get(memory, slot);
         FORE.add(memory, place);
     }
 }
@@ -77,12 +81,12 @@ fn free_all(memory: &mut Memory)
     }
 }
 
-// Counts the links and marks what waits for none.
+// Packs the row, counts the links and marks what waits for none.
 #[tactic(auto, unfolding(crate::specs::Renewing::prepared))]
 fn prepare(memory: &mut Memory)
     ensures { memory.new ≡ prepared memory.old }
 {
-    rebuild(memory);
+    pack(memory);
     clear(memory);
     count_all(memory);
     free_all(memory);
@@ -98,34 +102,18 @@ fn lessen(memory: &mut Memory, slot: u64)
     free(memory, slot);
 }
 
-// One step of a walk through the links out of a slot: what the link goes into waits for one fewer. Says where the walk goes on.
-fn release_one(memory: &mut Memory, pointer: u64) -> Option<u64>
-    ensures is { result ≡ next_by pointer (met memory.old Out pointer) }
-    ensures after { memory.new ≡ left_by (stepped memory.old Out pointer) (met memory.old Out pointer) }
-{
-    match take_step(memory, Chain::Out, pointer) {
-        Meeting::End => None,
-        Meeting::Dead => Some(pointer),
-        Meeting::Living { entry, next } => {
-            let to = to_of(memory, entry);
-            lessen(memory, to);
-            Some(next)
-        }
-    }
-}
-
-// A walk through the links out of a slot: what each goes into waits for one fewer. Each turn writes to the memory, which an iterator over the links
-// would hold lent; and there are no more turns than links were counted, whatever the memory holds.
-#[tactic(auto, using(crate::proofs::RenewSteps::releasing))]
+// What each of the links out of a slot goes into waits for one fewer. There are no more turns than links were counted, whatever the memory holds.
+#[tactic(auto, using(crate::proofs::LinkByLink::turns))]
 fn release(memory: &mut Memory, slot: u64, turns: u64)
     ensures { memory.new ≡ released turns memory.old slot }
 {
-    let mut pointer = slot;
+    let mut place = slot;
     for _turn in 0..turns {
-        let Some(next) = release_one(memory, pointer) else {
+        let Some(link) = OUT.follow(memory, place) else {
             return;
         };
-        pointer = next;
+        lessen(memory, link.label);
+        place = OUT.node(link.held);
     }
 }
 
@@ -150,15 +138,13 @@ fn draw(memory: &mut Memory, place: u64, i: u64)
     let_go(memory, slot);
 }
 
-// Makes the row anew by the rule: writes the slots to SPARE in the order in which they come, and says how many come; all, unless links go round. That not
-// all come is no failure: how many came is what a circle is shown by.
-#[tactic(auto, using(crate::proofs::RenewSteps::renews), unfolding(crate::specs::Renewing::renewed))]
-pub(crate) fn renew(memory: &mut Memory) -> u64
-    ensures is { result ≡ (renewed memory.old).came }
-    ensures below { result ≤ 8192 }
-    ensures after { memory.new ≡ (renewed memory.old).memory }
+// Again and again the slot at the first mark comes, and is written to SPARE; says how many come.
+#[tactic(auto, using(crate::proofs::RenewSteps::renews), unfolding(crate::specs::Renewing::drawn_all))]
+fn draw_all(memory: &mut Memory) -> u64
+    ensures is { result ≡ (drawn_all memory.old).came }
+    ensures below { result ≤ CARDS }
+    ensures after { memory.new ≡ (drawn_all memory.old).memory }
 {
-    prepare(memory);
     let n = row_len(memory);
     for i in 0..n {
         let Some(place) = FORE.first(memory) else {
@@ -167,4 +153,17 @@ pub(crate) fn renew(memory: &mut Memory) -> u64
         draw(memory, place, i);
     }
     n
+}
+
+// Makes the row anew by the rule: writes the slots to SPARE in the order in which they come, and says how many come; all, unless links go round. That not
+// all come is no failure: how many came is what a circle is shown by.
+#[tactic(auto, using(crate::proofs::RenewFrames::renewed_wrote), unfolding(crate::specs::Renewing::renewed))]
+pub(crate) fn renew(memory: &mut Memory) -> u64
+    ensures is { result ≡ (renewed memory.old).came }
+    ensures below { result ≤ CARDS }
+    ensures after { memory.new ≡ (renewed memory.old).memory }
+    ensures wrote { Writes renewing memory.old memory.new }
+{
+    prepare(memory);
+    draw_all(memory)
 }

@@ -12,6 +12,7 @@ use crate::tidying::tidy;
 use keeper::{Act, Event, Output, Pending, Reason, Telling, hear};
 use memory::Memory;
 use order::{LINKS, Link, Refusal};
+use row::pack;
 
 // Tells the part of the row: it is noted as still to come, and the keeper goes on with it.
 #[tactic(auto, unfolding(keeper::specs::Own::answer, crate::specs::Saying::noting))]
@@ -109,8 +110,9 @@ impl<'a> Several<'a> {
     }
 }
 
-// Says the links at once.
+// Says the links at once. Before they are tried the row is packed: from then on seats are places, and nobody comes or goes in between.
 #[tactic(auto, using(keeper::proofs::Writing::writing), unfolding(keeper::specs::Answers::as_told, crate::specs::Saying::said_several))]
+#[inline(never)]
 pub(crate) fn say_several(
     memory: &mut Memory,
     batch: &[Link],
@@ -128,6 +130,7 @@ pub(crate) fn say_several(
     if repeats(memory, batch) {
         return Err(Refusal::Exists.into());
     }
+    pack(memory);
     let several = Several {
         links: batch,
         span: span_of(memory, batch),
@@ -137,6 +140,7 @@ pub(crate) fn say_several(
 
 // Makes the row anew, from the order of the cards' numbers, and tells all of it. A memory whose links go round isn't a keeper's.
 #[tactic(auto, using(keeper::proofs::Writing::writing), unfolding(keeper::specs::Answers::as_told, crate::specs::Own::said_anew))]
+#[inline(never)]
 pub(crate) fn say_anew(
     memory: &mut Memory,
     telling: Telling,

@@ -8,11 +8,13 @@ ghost use Rattle.batch.specs.Promise.{WholeIn, Fits};
 
 use crate::event::Event;
 use crate::saying::{say_anew, say_several};
-use keeper::{Act, Memory, Output, Pending, Reason, Telling};
+use keeper::{Act, Output, Pending, Reason, Telling};
+use memory::Memory;
 use order::Link;
 
 // The answer to an event.
 #[tactic(auto, using(keeper::proofs::Writing::writing), unfolding(keeper::specs::Answers::as_told, crate::specs::Own::answer, crate::specs::Own::when_idle, keeper::specs::Answers::still_to_come))]
+#[inline(always)]
 fn hear(
     memory: &mut Memory,
     event: Event,
@@ -34,6 +36,7 @@ fn hear(
 
 // One step as `step` takes it, but that what is told may be passed over.
 #[tactic(auto, using(crate::proofs::Beginnings::fitting))]
+#[inline(always)]
 pub(crate) fn step_as(
     memory: &mut [u64],
     event: Event,

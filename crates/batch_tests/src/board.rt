@@ -1,6 +1,7 @@
 // What a memory has of a board: its row, and its links, the oldest first.
 use keeper::{read_row, slots_of};
-use links::{find, from_of, to_of, used};
+use links::{AGE, ALL, ENTRIES, find};
+use memory::Memory;
 use order::{CARDS, Link};
 use row::IDS;
 use std::process::Abort;
@@ -12,23 +13,29 @@ pub(crate) struct Board {
     pub links: Vec<Link>,
 }
 
-// The link of an entry of the table, if it is living.
-fn link_at(memory: &[u64], entry: u64) -> Option<Link> {
-    let from = from_of(memory, entry);
-    let to = to_of(memory, entry);
-    (from < CARDS).then_some(Link {
-        from: IDS.get(memory, from),
-        to: IDS.get(memory, to),
-    })
+// The link between cards that a pair of slots in one number stands for.
+fn link_of(memory: &Memory, pair: u64) -> Link {
+    Link {
+        from: IDS.get(memory, pair / CARDS),
+        to: IDS.get(memory, pair % CARDS),
+    }
 }
 
 // Whether a link is found in the table.
-pub(crate) fn has(memory: &[u64], link: Link) -> bool {
+pub(crate) fn has(memory: &Memory, link: Link) -> bool {
     slots_of(memory, link).is_some_and(|slots| find(memory, slots).is_some())
 }
 
+// The memory as its length is known.
+pub(crate) fn lent(memory: &[u64]) -> Result<&Memory, Fail> {
+    let Some(memory) = memory.as_array() else {
+        return Err(Fail::new("a memory of another length"));
+    };
+    Ok(memory)
+}
+
 // Reads the row, and sees that there are as many cards as the memory says.
-pub(crate) fn row_of(rt: &(impl Abort + AllocGlobal), memory: &[u64]) -> Result<Vec<u64>, Fail> {
+pub(crate) fn row_of(rt: &(impl Abort + AllocGlobal), memory: &Memory) -> Result<Vec<u64>, Fail> {
     let n = row::len(memory);
     let mut row = vec![in rt.alloc(); 0u64; n as usize]?;
     assert_eq!(rt; read_row(memory, row.as_mut_slice()), n);
@@ -37,11 +44,13 @@ pub(crate) fn row_of(rt: &(impl Abort + AllocGlobal), memory: &[u64]) -> Result<
 
 impl Board {
     // Reads the board, and sees that there are as many links as the memory says, and that each is found.
-    pub(crate) fn read(rt: &(impl Abort + AllocGlobal), memory: &[u64]) -> Result<Board, Fail> {
+    pub(crate) fn read(rt: &(impl Abort + AllocGlobal), memory: &Memory) -> Result<Board, Fail> {
         let row = row_of(rt, memory)?;
-        let links: Vec<Link> = (0..used(memory))
-            .filter_map(|entry| link_at(memory, entry))
+        let mut links: Vec<Link> = AGE
+            .walk(memory, ALL, ENTRIES)
+            .map(|pointer| link_of(memory, pointer.label))
             .collect(rt.alloc())?;
+        links.as_mut_slice().reverse();
         assert_eq!(rt; links.len() as u64, links::len(memory));
         assert!(rt; links.iter().all(|link| has(memory, *link)));
         Ok(Board { row, links })

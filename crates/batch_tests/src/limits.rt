@@ -1,9 +1,10 @@
 // As many links on the board as there may be.
+use crate::board::lent;
 use crate::cases::{Due, EXISTS, FULL, MISSING, check, link};
 use crate::player::Player;
 use batch::Event;
-use keeper::Act;
 use command::Command;
+use keeper::Act;
 use order::Link;
 use std::process::Abort;
 use std::test::Fail;
@@ -20,7 +21,7 @@ fn with_all_links(rt: &(impl Abort + AllocGlobal)) -> Result<Player, Fail> {
             Ok(Act::Done)
         );
     }
-    assert_eq!(rt; links::len(player.memory()), 65536);
+    assert_eq!(rt; links::len(lent(player.memory())?), 65536);
     Ok(player)
 }
 

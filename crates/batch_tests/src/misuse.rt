@@ -2,8 +2,8 @@
 use crate::cases::link;
 use crate::player::Player;
 use batch::{Event, make_anew, step};
-use keeper::{Act, MEMORY, OUTPUT, Reason};
 use command::Command;
+use keeper::{Act, MEMORY, OUTPUT, Reason};
 use order::{Link, Refusal};
 use std::process::Abort;
 use std::test::Fail;

@@ -1,10 +1,10 @@
 // A player says something to a keeper that takes several links at once. The player of `keeper_tests` keeps a row of its own, in which cards come and go; here
 // none does, so that what is told can be compared with the rows before and after. Both can't have a library in common: one has no heap, and can't end at
 // a check that fails.
-use crate::board::{Board, has, row_of};
+use crate::board::{Board, has, lent, row_of};
 use batch::{Event, play, step};
-use keeper::{Act, MEMORY, OUTPUT, Reason};
 use command::Command;
+use keeper::{Act, MEMORY, OUTPUT, Reason};
 use order::Link;
 use std::process::Abort;
 use std::test::Fail;
@@ -80,7 +80,7 @@ impl Player {
         event: Event,
         batch: &[Link],
     ) -> Result<Vec<Result<Act, Reason>>, Fail> {
-        let mut row = row_of(rt, self.memory.as_slice())?;
+        let mut row = row_of(rt, lent(self.memory.as_slice())?)?;
         let mut answers = Vec::new(rt.alloc());
         for event in [event, Event::Next, Event::Next] {
             let answer = self.step(event, batch);
@@ -90,12 +90,12 @@ impl Player {
                 break;
             }
         }
-        assert!(rt; row.as_slice() == row_of(rt, self.memory.as_slice())?.as_slice());
+        assert!(rt; row.as_slice() == row_of(rt, lent(self.memory.as_slice())?)?.as_slice());
         Ok(answers)
     }
 
     pub(crate) fn board(&self, rt: &(impl Abort + AllocGlobal)) -> Result<Board, Fail> {
-        Board::read(rt, self.memory.as_slice())
+        Board::read(rt, lent(self.memory.as_slice())?)
     }
 
     // Sees that row and links are as before, and that no link of the batch is found that wasn't there.
@@ -108,7 +108,7 @@ impl Player {
         let after = self.board(rt)?;
         assert!(rt; after.row.as_slice() == before.row.as_slice());
         assert!(rt; after.links.as_slice() == before.links.as_slice());
-        let memory = self.memory.as_slice();
+        let memory = lent(self.memory.as_slice())?;
         assert!(rt;
             batch
                 .iter()

@@ -7,6 +7,7 @@ use crate::plausible::{dent, fill_all};
 use crate::sound::play_some;
 use crate::tallies::set_tallies;
 use links::OUT;
+use memory::Memory;
 use order::CARDS;
 use std::alloc::AllocError;
 
@@ -26,13 +27,13 @@ fn fill_small(memory: &mut [u64], dice: &mut Dice) {
     let n = match dice.below(3) {
         0 => 4,
         1 => CARDS,
-        _ => OUT.pointers.size,
+        _ => OUT.cells.size,
     };
     fill_below(memory, n, dice);
 }
 
 // Puts numbers here and there, from a few to many.
-fn dent_some(memory: &mut [u64], dice: &mut Dice) {
+fn dent_some(memory: &mut Memory, dice: &mut Dice) {
     let most = match dice.below(3) {
         0 => 8,
         1 => 256,
@@ -45,7 +46,9 @@ fn dent_some(memory: &mut [u64], dice: &mut Dice) {
 
 fn fill_dented(bench: &mut Bench, dice: &mut Dice) -> Result<(), AllocError> {
     play_some(bench, dice)?;
-    let memory = bench.memory.as_mut_slice();
+    let Some(memory) = bench.memory.as_mut_slice().first_chunk_mut() else {
+        return Ok(());
+    };
     dent_some(memory, dice);
     if dice.below(4) == 0 {
         set_tallies(memory, dice);
@@ -61,7 +64,9 @@ pub(crate) fn build(bench: &mut Bench, kind: Kind, dice: &mut Dice) -> Result<()
         Kind::Small => fill_small(memory, dice),
         Kind::Plausible => {
             fill_below(memory, CARDS, dice);
-            fill_all(memory, dice);
+            if let Some(memory) = memory.first_chunk_mut() {
+                fill_all(memory, dice);
+            }
         }
         Kind::Dented => return fill_dented(bench, dice),
         Kind::Circles => {
@@ -69,6 +74,9 @@ pub(crate) fn build(bench: &mut Bench, kind: Kind, dice: &mut Dice) -> Result<()
             return Ok(());
         }
     }
+    let Some(memory) = memory.first_chunk_mut() else {
+        return Ok(());
+    };
     if dice.below(8) > 0 {
         set_tallies(memory, dice);
     }

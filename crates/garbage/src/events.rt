@@ -2,14 +2,15 @@
 use crate::dice::Dice;
 use crate::plausible::card_of;
 use batch::Event;
-use keeper::Pending;
 use command::Command;
+use keeper::Pending;
+use memory::Memory;
 use order::{CARDS, Link};
 use row::{IDS, SLOTS, len};
 use std::alloc::AllocError;
 
 // A card that stands in the row, mostly; or one of some bucket, or with a small number, or any.
-fn card(memory: &[u64], dice: &mut Dice) -> u64 {
+fn card(memory: &Memory, dice: &mut Dice) -> u64 {
     match dice.below(12) {
         0 => dice.any(),
         1 => dice.below(CARDS),
@@ -21,7 +22,7 @@ fn card(memory: &[u64], dice: &mut Dice) -> u64 {
     }
 }
 
-fn link(memory: &[u64], dice: &mut Dice) -> Link {
+fn link(memory: &Memory, dice: &mut Dice) -> Link {
     Link {
         from: card(memory, dice),
         to: card(memory, dice),
@@ -30,7 +31,7 @@ fn link(memory: &[u64], dice: &mut Dice) -> Link {
 
 // Puts links into the batch: none, a few, or up to so many.
 fn put_links(
-    memory: &[u64],
+    memory: &Memory,
     most: u64,
     batch: &mut Vec<Link>,
     dice: &mut Dice,
@@ -49,7 +50,7 @@ fn put_links(
 
 // An event of any kind; the links of several stand in the batch then.
 fn any_event(
-    memory: &[u64],
+    memory: &Memory,
     most: u64,
     batch: &mut Vec<Link>,
     dice: &mut Dice,
@@ -74,7 +75,7 @@ fn any_event(
 
 // An event of any kind, with at most so many links; mostly `Next`, if anything is pending.
 pub(crate) fn drawn(
-    memory: &[u64],
+    memory: &Memory,
     most: u64,
     batch: &mut Vec<Link>,
     dice: &mut Dice,

@@ -1,7 +1,8 @@
 // How long the lent memory and output are.
 use crate::dice::Dice;
 use crate::kind::Kind;
-use keeper::{MEMORY, OUTPUT};
+use keeper::OUTPUT;
+use memory::MEMORY;
 
 // The lent memory or output is longer than it has to be by so much, at most.
 pub(crate) const SPARE: usize = 64;

@@ -39,7 +39,7 @@ mean no board: four random events to each memory. Memory i is made from the
 number SEED + i alone, so 'garbage 7 1' makes the same as memory 2 of
 'garbage 5 10'. The memories are
   random      all numbers below 2^64
-  small       all numbers below 4, below 8,192 or below 75,776
+  small       all numbers below 4, below 8,192 or below 73,985
   plausible   in each column numbers that may stand there
   dented      a board that random sayings made, then overwritten here and there
   circles     all chains go round through all entries

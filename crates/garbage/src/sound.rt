@@ -1,11 +1,11 @@
 // A board that random sayings made.
 use crate::bench::Bench;
 use crate::dice::Dice;
-use crate::events;
 use crate::plausible::card_of;
 use batch::{Event, play};
-use keeper::MEMORY;
 use command::Command;
+use memory::MEMORY;
+use order::CARDS;
 use std::alloc::AllocError;
 
 fn say(bench: &mut Bench, event: Event) {
@@ -24,7 +24,7 @@ fn say(bench: &mut Bench, event: Event) {
 // How many cards come first: a few, some hundreds, or now and then as many as there may be.
 fn how_many_cards(dice: &mut Dice) -> u64 {
     match dice.below(16) {
-        0 => 8192,
+        0 => CARDS,
         1..=7 => dice.below(16),
         _ => dice.below(512),
     }
@@ -41,7 +41,7 @@ pub(crate) fn play_some(bench: &mut Bench, dice: &mut Dice) -> Result<(), AllocE
     bench.memory.as_mut_slice().fill(0);
     bring_cards(bench, dice);
     for _saying in 0..dice.below(100) {
-        let event = events::drawn(bench.memory.as_slice(), 256, &mut bench.batch, dice)?;
+        let event = bench.draw(256, dice)?;
         say(bench, event);
     }
     Ok(())

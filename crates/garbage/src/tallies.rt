@@ -1,9 +1,10 @@
 // The single numbers of a memory, so that it isn't refused at once.
 use crate::dice::Dice;
-use keeper::{LINKS, Pending};
-use links::{END, ENTRIES, LIVE};
-use order::CARDS;
-use row::{COUNT, FRESH, TALLY};
+use keeper::Pending;
+use links::{ENTRIES, LIVE, USED};
+use memory::Memory;
+use order::{CARDS, LINKS};
+use row::{COUNT, ENDING, FREE, FRESH, SEATS_MOST};
 
 // A small number, mostly; or one below a limit, at it, near it, or any.
 fn about(limit: u64, dice: &mut Dice) -> u64 {
@@ -29,14 +30,16 @@ fn pending(dice: &mut Dice) -> Pending {
     }
 }
 
-pub(crate) fn set_tallies(memory: &mut [u64], dice: &mut Dice) {
-    for (index, limit) in [
+pub(crate) fn set_tallies(memory: &mut Memory, dice: &mut Dice) {
+    for (tally, limit) in [
         (COUNT, CARDS),
+        (ENDING, SEATS_MOST),
         (FRESH, CARDS),
+        (FREE, CARDS),
         (LIVE, LINKS),
-        (END, ENTRIES),
+        (USED, ENTRIES),
     ] {
-        TALLY.set(memory, index, about(limit, dice));
+        tally.set(memory, 0, about(limit, dice));
     }
     pending(dice).note(memory);
 }

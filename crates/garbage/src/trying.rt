@@ -3,7 +3,6 @@ use crate::bench::Bench;
 use crate::building::build;
 use crate::counting::Counts;
 use crate::dice::Dice;
-use crate::events;
 use crate::kind::Kind;
 use crate::lengths::Lengths;
 use crate::taken::Taken;
@@ -84,13 +83,7 @@ impl Trial {
     // Takes some steps from a memory.
     fn take_steps(&mut self, rt: &HostRuntime, case: Case, dice: &mut Dice) -> anyhow::Result<()> {
         for _step in 0..STEPS {
-            let bench = &mut self.bench;
-            let event = events::drawn(
-                bench.memory.as_slice(),
-                case.kind.most_links(),
-                &mut bench.batch,
-                dice,
-            )?;
+            let event = self.bench.draw(case.kind.most_links(), dice)?;
             let taken = self.step(rt, case, event)?;
             self.note(taken)?;
         }

@@ -3,13 +3,13 @@
 // All chains go round through all entries, in a random order, so that each turn of a walk looks into another part of the memory. Each of the links that are
 // said at once goes backward over the row; no two searches meet, and each of them makes as many turns as it may.
 use crate::bench::Bench;
-use crate::circles::{Ends, MARGIN, go_round};
+use crate::circles::{Backs, Ends, MARGIN, go_round};
 use crate::dice::Dice;
 use crate::plausible::card_of;
 use anyhow::Context;
 use batch::{Event, step};
-use keeper::MEMORY;
 use links::ENTRIES;
+use memory::MEMORY;
 use order::{CARDS, Link};
 use std::time::CpuClock;
 
@@ -30,6 +30,7 @@ pub(crate) fn try_worst(rt: &HostRuntime) -> anyhow::Result<()> {
     go_round(
         &mut bench,
         Ends::Apart,
+        Backs::True,
         ENTRIES - 512,
         &mut Dice::of_seed(1),
     );

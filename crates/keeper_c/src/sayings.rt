@@ -1,9 +1,8 @@
 // Commands, and the row.
+ghost use Rattle.keeper.specs.Playing.{row_read, read_count};
 ghost use Rattle.std.specs.Prelude.{◌≡◌};
 ghost use Rattle.order.specs.Board.{◌⟶◌};
 ghost use Rattle.command.specs.declared.command.Command.TheVariants.{Comes, Goes, Link as Links, Unlink as Unlinks, Places};
-ghost use Rattle.row.specs.Layout.{count};
-ghost use Rattle.row.specs.Telling.{told, told_count};
 ghost use Rattle.batch.specs.Engine.{said, one as commanded};
 ghost use Rattle.batch.specs.Own.{own};
 ghost use Rattle.batch.specs.PlayLaws.{Plays, PlaysShows};
@@ -13,11 +12,12 @@ ghost use Rattle.keeper_c.specs.Answers.{CameTo};
 
 use crate::answer::KeeperAnswer;
 use batch::{Event, play};
-use keeper::read_row;
 use command::Command;
+use keeper::read_row;
 use order::Link;
 
 // A command is said to the engine that takes several links at once too, so that all functions are of one engine.
+#[inline(always)]
 fn say(memory: &mut [u64], command: Command, out: &mut [u64]) -> KeeperAnswer
     ensures went { CameTo (played memory.old (said (commanded command)) out.old) result memory.new out.new }
     ensures whole { WholeIn 3 own }
@@ -100,8 +100,8 @@ pub extern "C" fn keeper_places(
 // Writes the row to the front of `row`; says how many cards it has.
 #[unsafe(no_mangle)]
 pub extern "C" fn keeper_row(memory: &[u64], row: &mut [u64]) -> u64
-    ensures is { result ≡ told_count memory.now 0 (count memory.now) row.old }
-    ensures row { row.new ≡ told memory.now 0 (count memory.now) row.old }
+    ensures is { result ≡ read_count memory.now row.old }
+    ensures row { row.new ≡ row_read memory.now row.old }
 {
     read_row(memory, row)
 }

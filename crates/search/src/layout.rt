@@ -3,9 +3,14 @@ use links::PAIR;
 use memory::{Column, PAD, PlaceSet, SET_WORDS};
 use order::CARDS;
 
+// Where the columns begin.
+const BASE: u64 = 373000;
+
+const _: () = prove!(PAIR.cells.base + PAIR.cells.size <= BASE);
+
 // By slot: the slot that a search came from.
 pub const VIA: Column = Column {
-    base: PAIR.cells.base + PAIR.cells.size + PAD,
+    base: BASE,
     size: CARDS,
 };
 

@@ -3,8 +3,8 @@ use Rattle.std.proofs.lemmas.List.Sorted.{IsNonDecreasingBy-from_sort}
 use Rattle.batch.proofs.PartSorted.{part_sorted, no_part}
 use Rattle.batch.proofs.sorting.sort_part.Goals as goal
 
-pub returns-then-high-le524288 : goal.returns-then-high-le524288
-returns-then-high-le524288 c =
+pub returns-then-high-le-MEMORY : goal.returns-then-high-le-MEMORY
+returns-then-high-le-MEMORY c =
     let s = c.sort_unstable.ensures in
     part_sorted c.args.memory.now c.args.low c.args.high c.sort_unstable.new.self (omega arith) (omega arith) s.permutation
     (IsNonDecreasingBy-from_sort (λ x. x) _ s.sorted)

@@ -1,4 +1,5 @@
 use Rattle.std.proofs.Common.{ℕ, List, take, subst}
+use Rattle.order.specs.declared.board.TheConstants.{CARDS}
 use Rattle.keeper.specs.Answers.{Gives, as_told}
 use Rattle.batch.specs.Engine.{heard}
 use Rattle.batch.specs.Own.{answer}
@@ -12,5 +13,5 @@ returns c =
     let h = heard c.args.event c.args.batch.now in
     let t = c.args.telling in
     took t c.args.memory.now h c.args.out.now _ _ _ w.long f.enough
-    (subst (λ (m : List ℕ). Gives (as_told t (answer m h)) (take 8192 c.args.out.now) c.hear.result c.hear.new.memory c.hear.new.out) w.same
+    (subst (λ (m : List ℕ). Gives (as_told t (answer m h)) (take CARDS c.args.out.now) c.hear.result c.hear.new.memory c.hear.new.out) w.same
     (subst (λ (o : List ℕ). Gives (as_told t (answer c.in-Some.memory.now h)) o c.hear.result c.hear.new.memory c.hear.new.out) f.same c.hear.ensures))
