@@ -13,7 +13,7 @@ use Rattle.row.proofs.Framing.{column_same, compacted_writes}
 use Rattle.row.proofs.Seatings.{free_from}
 use Rattle.row.proofs.Rows.{seated}
 use Rattle.row.proofs.Packs.{compacts}
-use Rattle.row.proofs.Named.{ranked, standing, used_seat, place_slot}
+use Rattle.row.proofs.Named.{place_ranked, standing, used_seat}
 
 -- what a row has in common with itself on other seats
 pub record Same (m n : List ℕ) : Type 0 where
@@ -73,7 +73,7 @@ packed_by m n g tight =
       dense = rw tight (listed_all (cell n SLOTS) (taken n) (count n) all);
       seats_are = λ s u.
           let b = st.below (cell n SEATS s) (used_seat n g.is_row s u).0 in
-          sym (place_slot n g.is_row s u ∙ ranked n g.is_row s u ∙ amount_all (taken n) (cell n SEATS s) (λ p l. all p (omega arith)));
+          sym (place_ranked n g.is_row s u ∙ amount_all (taken n) (cell n SEATS s) (λ p l. all p (omega arith)));
     }
 
 pub packs : (m : List ℕ) → IsRow m → Packed m (packed m)

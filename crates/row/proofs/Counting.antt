@@ -1,15 +1,15 @@
 -- The ones of a word are the taken seats of its 64.
-use Rattle.std.proofs.Common.{◌≡◌, ℕ, zero, suc, ◌+◌, ◌-◌, ◌*◌, ◌/◌, ◌%◌, ◌^◌, ◌<◌, ◌≤◌, min, Bool, cond, eqb, List, length, get_or, take, drop, length-drop, inl, inr, sym, refl, ap, ◌∙◌, arith}
+use Rattle.std.proofs.Common.{◌≡◌, ℕ, zero, suc, ◌+◌, ◌-◌, ◌*◌, ◌/◌, ◌%◌, ◌^◌, ◌<◌, ◌≤◌, min, Bool, cond, eqb, ltb, List, length, get_or, take, drop, length-drop, inl, inr, sym, refl, ap, ◌∙◌, arith}
 use native.Mathlib.Nat.{mod-eq_of_lt}
 use lib.Bits.{bit_and}
 use lib.Count.{ones, ones_cat}
 use Rattle.std.proofs.lemmas.Nat.{mod-pow-add, div-add-mod', and_mask, one_shl, mod_below, pow_pos}
-use Rattle.std.proofs.lemmas.Bool.{cases_lt}
+use Rattle.std.proofs.lemmas.Bool.{cases_lt, cond_both}
 use Rattle.std.proofs.lemmas.Bool.Decides.{nat_tests}
 use Rattle.std.proofs.lemmas.List.{length-take-le, get_or-take, get_or-drop}
 use Rattle.memory.specs.Columns.{cell}
 use Rattle.row.specs.declared.layout.TheConstants.{SEATS_MOST, WORDS, TAKEN}
-use Rattle.row.specs.Meaning.{digit, bit_set, taken, rank}
+use Rattle.row.specs.Meaning.{digit, bit_set, taken, rank, placed, count, ending}
 use Rattle.row.proofs.Listing.{amount_cut, amount_more, amount_none, amount_le}
 use Rattle.row.proofs.Along.{amount_gap}
 use Rattle.row.proofs.Words.{none_past}
@@ -119,3 +119,9 @@ word_is m first end i h l =
 
 pub ones_none : (w : ℕ) → ones (w % 2 ^ 0) ≡ 0
 ones_none w = let z : w % 2 ^ 0 ≡ 0 = omega arith in ap ones z ∙ ones_bit 0 (omega arith)
+
+-- a place is no more than a seat, or the cards
+pub placed_below : (m : List ℕ) (p : ℕ) → placed m p ≤ p + count m
+unfolding placed
+placed_below m p =
+    let l = rank_le m p in cond_both (ltb p (ending m / 2)) (rank m p) _ (λ (x : ℕ). x ≤ p + count m) (λ _. omega arith) (λ _. omega arith)

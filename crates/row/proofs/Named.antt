@@ -47,8 +47,11 @@ module _ (m : List ℕ) (S : IsRow m) where
   pub ranked : (s : ℕ) → used m s ≡ true → place_at m s ≡ rank m (cell m SEATS s)
   ranked s u = placed_is m (seated m S) (cell m SEATS s) (used_seat s u).0
 
+  pub place_ranked : (s : ℕ) → used m s ≡ true → place (row_of m) s ≡ rank m (cell m SEATS s)
+  place_ranked = place_is m (seated m S)
+
   pub place_slot : (s : ℕ) → used m s ≡ true → place (row_of m) s ≡ place_at m s
-  place_slot s u = place_is m (seated m S) s u ∙ sym (ranked s u)
+  place_slot s u = place_ranked s u ∙ sym (ranked s u)
 
   pub length_slots : length (row_of m) ≡ count m
   length_slots = length_row m (seated m S)
