@@ -1,6 +1,6 @@
 -- What walks along the chains give.
 use Rattle.std.proofs.Common.{◌≡◌, ℕ, ◌+◌, ◌<◌, ◌≤◌, ◌&&◌, eqb, List, [], ◌∷◌, ◌++◌, map, filter, reverse, length, refl, sym, ap, subst, ◌∙◌, lit<, lit≤, arith}
-use Rattle.std.proofs.lemmas.List.{reverse-reverse, length-map, length-reverse}
+use Rattle.std.proofs.lemmas.List.{reverse-reverse, map-append}
 use mathlib.Core.List.{reverse-cons}
 use Rattle.memory.specs.Footprints.{view}
 use Rattle.order.specs.declared.board.TheConstants.{CARDS}
@@ -24,14 +24,10 @@ labels : (f : Link → ℕ) (L : List Entry) → map (λ x. x.label) (map (point
 labels f [] = refl
 labels f (y ∷ L) = ap (λ (ns : List ℕ). f y.link ∷ ns) (labels f L)
 
-map_append : {A B : Type 0} (f : A → B) (xs ys : List A) → map f (xs ++ ys) ≡ map f xs ++ map f ys
-map_append f [] ys = refl
-map_append f (x ∷ xs) ys = ap (λ zs. f x ∷ zs) (map_append f xs ys)
-
 pub map_reverse : {A B : Type 0} (f : A → B) (xs : List A) → map f (reverse xs) ≡ reverse (map f xs)
 map_reverse f [] = refl
 map_reverse f (x ∷ xs) =
-    ap (map f) (reverse-cons x xs) ∙ (map_append f (reverse xs) (x ∷ [])
+    ap (map f) (reverse-cons x xs) ∙ (map-append f (reverse xs) (x ∷ [])
     ∙ (ap (λ zs. zs ++ f x ∷ []) (map_reverse f xs) ∙ sym (reverse-cons (f x) (map f xs))))
 
 module _ (m : List ℕ) (h : IsTable m) where
@@ -80,39 +76,6 @@ module _ (m : List ℕ) (h : IsTable m) where
       ∙ (any_map (λ k. eqb k a) (λ (y : Link). y.from) (kept (λ y. eqb y.to b) (edges m))
       ∙ (any_kept (λ y. eqb y.to b) (λ y. eqb y.from a) (edges m)
       ∙ any_like (λ y. eqb y.to b && eqb y.from a) (joins (a ⟶ b)) (λ y. grind arith) (edges m)))
-
-  -- how many
-  counted : (f : Link → ℕ) (xs : List Pointer) (ys : List Link) → map (λ x. x.label) xs ≡ reverse (map f ys) → length xs ≡ length ys
-  counted f xs ys e =
-      sym (length-map xs (λ (x : Pointer). x.label)) ∙ (ap length e ∙ (length-reverse (map f ys) ∙ length-map ys f))
-
-  pub out_count : (s : ℕ) → s < CARDS → length (walked ENTRIES OUT m s) ≡ length (kept (λ y. eqb y.from s) (edges m))
-  out_count s b = counted (λ y. y.to) (walked ENTRIES OUT m s) (kept (λ y. eqb y.from s) (edges m)) (out_gives s b)
-
-  pub in_count : (s : ℕ) → s < CARDS → length (walked ENTRIES IN m s) ≡ length (kept (λ y. eqb y.to s) (edges m))
-  in_count s b = counted (λ y. y.from) (walked ENTRIES IN m s) (kept (λ y. eqb y.to s) (edges m)) (in_gives s b)
-
-  pub age_count : length (walked ENTRIES AGE m ALL) ≡ length (edges m)
-  age_count = counted pair (walked ENTRIES AGE m ALL) (edges m) age_gives
-
-  pub age_links : map (λ x. unpair x.label) (walked ENTRIES AGE m ALL) ≡ reverse (edges m)
-  unfolding edges
-  age_links = sym (reverse-reverse (map (λ x. unpair x.label) (walked ENTRIES AGE m ALL)))
-
-  -- from a slot on the places lead through its chain: whoever walks step by step goes by this
-  led : (F : ChainTable) (chains : ℕ → List Pointer) (k : ℕ) → Holds F m chains → k < F.heads → F.cells.size ≤ F.heads + ENTRIES + 1
-      → Leads F (at F m) k (walked ENTRIES F m k)
-  led F chains k c b s =
-      subst (λ (xs : List Pointer). Leads F (at F m) k xs) (sym (walked_is F m chains k c b s)) (leads F (at F m) (chains k) k (c.spelled k b))
-
-  pub out_leads : (s : ℕ) → s < CARDS → Leads OUT (at OUT m) s (walked ENTRIES OUT m s)
-  out_leads s b = led OUT (part (λ x. x.from) (λ x. x.to) L) s t.outs b (lit≤ tt)
-
-  pub in_leads : (s : ℕ) → s < CARDS → Leads IN (at IN m) s (walked ENTRIES IN m s)
-  in_leads s b = led IN (part (λ x. x.to) (λ x. x.from) L) s t.ins b (lit≤ tt)
-
-  pub age_leads : Leads AGE (at AGE m) ALL (walked ENTRIES AGE m ALL)
-  age_leads = led AGE (aged L h.table.free) ALL t.ages (lit< tt) (lit≤ tt)
 
 pub gives : Gives
 unfolding Gives
