@@ -14,7 +14,7 @@ use Rattle.chains.proofs.Clearing.{begins as each_begins}
 use Rattle.links.specs.declared.layout.TheConstants.{LIVE, USED, OUT, IN, AGE, ALL, PAIR}
 use Rattle.links.specs.Table.{columns, edges, aged, TableOf, IsTable}
 use Rattle.links.specs.Laws.{Lies, Begins}
-use Rattle.links.proofs.Parting.{holds_like}
+use Rattle.links.proofs.Coming.{holds_like}
 use Rattle.links.proofs.Telling.{edges_is}
 
 pub lies : Lies
