@@ -1,5 +1,5 @@
 -- What the operations do to the table, by their models.
-use Rattle.std.proofs.Common.{◌≡◌, ℕ, ◌<◌, ◌≤◌, Bool, true, false, not, ◌&&◌, ◌||◌, eqb, ltb, List, [], ◌∷◌, ◌++◌, map, filter, length, is_some, is_ok, Some, None, Option, refl, sym, ap, ◌∙◌, ◌⊎◌, inl, inr, lit≤, arith}
+use Rattle.std.proofs.Common.{◌≡◌, ℕ, ◌<◌, ◌≤◌, Bool, true, false, not, ◌&&◌, ◌||◌, eqb, ltb, List, [], ◌∷◌, ◌++◌, map, filter, length, is_some, is_ok, Some, None, Option, refl, sym, ap, ◌∙◌, inl, inr, lit≤, arith}
 use Rattle.std.proofs.lemmas.Bool.{cases_Bool, cases_lt, lt-ltb}
 use Rattle.std.proofs.lemmas.Bool.Decides.{nat_tests}
 use mathlib.Core.List.{reverse-cons}
@@ -106,22 +106,26 @@ module _ (m : List ℕ) (x : Link) (h : IsTable m) where
   finds_at e f = let w = all_walked m K (free m h) (t m h) in let c = in_age_chain e K (found_entry e f) in cc
 
   -- a link is taken out
-  cases_found : ((e : ℕ) × (found m x ≡ Some e)) ⊎ (found m x ≡ None)
-  cases_found = cases (found m x) refl
-    where
-      cases : (o : Option ℕ) → found m x ≡ o → ((e : ℕ) × (found m x ≡ Some e)) ⊎ (found m x ≡ None)
-      cases None e = inr e
-      cases (Some k) e = inl (k, e)
-
   less : (e : ℕ) → found m x ≡ Some e → TableFor (freed (unhooked IN (unhooked OUT m e) e) e) (others e K)
   less e f = table_less m K (free m h) (t m h) e (let a = at_listed e x K (found_entry e f) in grind arith)
 
-  pub removes_table : IsTable (removed m x).memory
+  removed_to : (o : Option ℕ) → found m x ≡ o
+      → IsTable (removed m x).memory × (once (edges m) ≡ true → edges (removed m x).memory ≡ kept (λ y. not (joins x y)) (edges m))
   unfolding removed
-  removes_table = elim cases_found [
-    | inl f ↦ let l = less f.0 f.1 in rw f.1 (record { table = record { entries = others f.0 K; free = l.0; table = l.1 } })
-    | inr f ↦ rw f h
-  ]
+  removed_to None f = let s = finds in rw f (h, λ o. sym (kept_all (joins x) (edges m) (cc)))
+  removed_to (Some e) f =
+      let l = less e f in rw f (
+        record { table = record { entries = others e K; free = l.0; table = l.1 } },
+        λ o. let a = edges_is m K (free m h) (t m h) in
+            let k = entry_less e x K (all_apart m K (free m h) (t m h).ages) (once_turned (links_of K) (rw a at o)) (found_entry e f) in
+            let b = edges_is _ (others e K) l.0 l.1 in let c = edges_kept m K (free m h) (t m h) (λ y. not (joins x y)) in cc,
+      )
+
+  pub removes_table : IsTable (removed m x).memory
+  removes_table = (removed_to (found m x) refl).0
+
+  pub removes_edges : once (edges m) ≡ true → edges (removed m x).memory ≡ kept (λ y. not (joins x y)) (edges m)
+  removes_edges = (removed_to (found m x) refl).1
 
   pub removes_missing : any (joins x) (edges m) ≡ false → removed m x ≡ refused m Missing
   unfolding removed
@@ -131,56 +135,33 @@ module _ (m : List ℕ) (x : Link) (h : IsTable m) where
   unfolding removed
   removes_ok = let f = finds in grind arith
 
-  pub removes_edges : once (edges m) ≡ true → edges (removed m x).memory ≡ kept (λ y. not (joins x y)) (edges m)
-  unfolding removed
-  removes_edges o = elim cases_found [
-    | inl f ↦
-        let l = less f.0 f.1 in let a = edges_is m K (free m h) (t m h) in
-        let k = entry_less f.0 x K (all_apart m K (free m h) (t m h).ages) (once_turned (links_of K) (rw a at o)) (found_entry f.0 f.1) in
-        let b = edges_is _ (others f.0 K) l.0 l.1 in let c = edges_kept m K (free m h) (t m h) (λ y. not (joins x y)) in
-        rw f.1 (cc)
-    | inr f ↦ let s = finds in rw f (sym (kept_all (joins x) (edges m) (cc)))
-  ]
-
 -- all of a slot are
 module _ (m : List ℕ) (s : ℕ) where
-  removed_all_none : CARDS ≤ s → removed_all m s ≡ m
-  unfolding removed_all
-  removed_all_none b = let l : ltb s CARDS ≡ false = grind (arith, nat_tests) in rw l refl
+  abbrev stay : Link → Bool
+  stay y = not (eqb y.from s || eqb y.to s)
 
-  removed_all_some : s < CARDS → removed_all m s ≡ emptied IN OUT (emptied OUT IN m s) s
-  unfolding removed_all
-  removed_all_some b = rw (lt-ltb s CARDS b) refl
-
-  abbrev goes : Link → Bool
-  goes y = eqb y.from s || eqb y.to s
-
-  none_goes : CARDS ≤ s → (xs : List Link) → every is_between xs ≡ true → any goes xs ≡ false
+  none_goes : CARDS ≤ s → (xs : List Link) → every is_between xs ≡ true → any (λ y. eqb y.from s || eqb y.to s) xs ≡ false
   unfolding any every
   none_goes b [] a = refl
   none_goes b (y ∷ xs) a = let ih = none_goes b xs in grind (arith, nat_tests)
 
   module _ (h : IsTable m) where
-    abbrev A : List Entry
-    A = h.table.entries
-
-    less_all : s < CARDS → TableFor (removed_all m s) (filter (λ y. not (goes y.link)) A)
-    less_all b =
-        let o = table_less_out m A h.table.free h.table.table s b in
-        let i = table_less_in (emptied OUT IN m s) (filter (λ y. not (eqb y.link.from s)) A) o.0 o.1 s b in
-        rw (removed_all_some b)
-        (rw (filter_both (λ y. not (eqb y.link.from s)) (λ y. not (eqb y.link.to s)) (λ y. not (goes y.link)) A (λ y. grind arith)) at i)
+    removed_all_to : IsTable (removed_all m s) × (edges (removed_all m s) ≡ kept stay (edges m))
+    unfolding removed_all
+    removed_all_to = elim (cases_lt s CARDS) [
+      | inl b ↦
+          let A = h.table.entries in
+          let o = table_less_out m A h.table.free h.table.table s b in
+          let i = table_less_in (emptied OUT IN m s) (filter (λ y. not (eqb y.link.from s)) A) o.0 o.1 s b in
+          let l = rw (filter_both (λ y. not (eqb y.link.from s)) (λ y. not (eqb y.link.to s)) (λ y. stay y.link) A (λ y. grind arith)) at i in
+          let e = edges_is (emptied IN OUT (emptied OUT IN m s) s) (filter (λ y. stay y.link) A) l.0 l.1 in
+          let f = links_filter stay A in let k = edges_kept m A h.table.free h.table.table stay in
+          rw (lt-ltb s CARDS b) (record { table = record { entries = filter (λ y. stay y.link) A; free = l.0; table = l.1 } }, cc)
+      | inr b ↦ let t : ltb s CARDS ≡ false = grind (arith, nat_tests) in rw t (h, sym (kept_all _ (edges m) (none_goes b (edges m) (all_between m h))))
+    ]
 
     pub removes_all_table : IsTable (removed_all m s)
-    removes_all_table = elim (cases_lt s CARDS) [
-      | inl b ↦ let l = less_all b in record { table = record { entries = filter (λ y. not (goes y.link)) A; free = l.0; table = l.1 } }
-      | inr b ↦ rw (removed_all_none b) h
-    ]
+    removes_all_table = removed_all_to.0
 
     pub removes_all_edges : edges (removed_all m s) ≡ kept (λ y. not (eqb y.from s || eqb y.to s)) (edges m)
-    removes_all_edges = elim (cases_lt s CARDS) [
-      | inl b ↦
-          let l = less_all b in let e = edges_is (removed_all m s) _ l.0 l.1 in let f = links_filter (λ y. not (goes y)) A in
-          let k = edges_kept m A h.table.free h.table.table (λ y. not (goes y)) in cc
-      | inr b ↦ ap edges (removed_all_none b) ∙ sym (kept_all goes (edges m) (none_goes b (edges m) (all_between m h)))
-    ]
+    removes_all_edges = removed_all_to.1
