@@ -14,8 +14,8 @@ use Rattle.chains.proofs.Puts.{put_at}
 use Rattle.chains.proofs.Framing.{cleared_writes}
 
 -- a write to one head leaves the other chains
-spells_but : (F : ChainTable) (f f' : ℕ → Cell) (k : ℕ) → k < F.heads → ((p : ℕ) → (p ≡ k → ⊥) → f' p ≡ f p) → (xs : List Pointer) (p : ℕ) → (p ≡ k → ⊥) → Spells F f p xs
-    → Spells F f' p xs
+spells_but : (F : ChainTable) (f f' : ℕ → Cell) (k : ℕ) → k < F.heads → ((p : ℕ) → (p ≡ k → ⊥) → f' p ≡ f p) → (xs : List Pointer) (p : ℕ)
+    → (p ≡ k → ⊥) → Spells F f p xs → Spells F f' p xs
 spells_but F f f' k b e [] p n s = ap (λ (i : Cell). i.next.held) (e p n) ∙ s
 spells_but F f f' k b e (x ∷ xs) p n s =
     let d : node F x.held ≡ k → ⊥ = λ (q : node F x.held ≡ k). node_above F x.held k b (sym q) in
@@ -37,7 +37,8 @@ module _ (F : ChainTable) (m : List ℕ) where
         headed = h.headed;
         spelled = λ j l. elim (cases_Bool (eqb j k)) [
           | inl t ↦ rw t (let d = c j in grind arith)
-          | inr t ↦ rw t (spells_but F (at F m) (at F (cleared F m k)) k b (λ p n. let d = c p in grind (arith, nat_tests)) (chains j) j (eqb-false j k t) (h.spelled j l))
+          | inr t ↦ rw t (spells_but F (at F m) (at F (cleared F m k)) k b (λ p n. let d = c p in grind (arith, nat_tests)) (chains j) j
+              (eqb-false j k t) (h.spelled j l))
         ];
       }
 

@@ -25,7 +25,8 @@ module _ (F : ChainTable) {fs : List Column} {m n : List ℕ} (w : Writes fs m n
   pub leads_kept : (xs : List Pointer) (p : ℕ) → Leads F (at F m) p xs → Leads F (at F n) p xs
   leads_kept xs p s = subst (λ (g : ℕ → ℕ). Leads F (λ q. decoded (g q)) p xs) column_kept s
 
-pub walked_kept : (F : ChainTable) (fs : List Column) → clear fs F.cells ≡ true → (m n : List ℕ) → Writes fs m n → (f p : ℕ) → walked f F n p ≡ walked f F m p
+pub walked_kept : (F : ChainTable) (fs : List Column) → clear fs F.cells ≡ true → (m n : List ℕ) → Writes fs m n → (f p : ℕ)
+    → walked f F n p ≡ walked f F m p
 walked_kept F fs c m n w f p = ap (λ (g : ℕ → ℕ). walked_by f F g p) (sym (column_kept F w c))
 
 -- what the operations write

@@ -21,8 +21,8 @@ module _ (F : ChainTable) (m : List ℕ) where
   goes e chains k h b t = holds_unhooked F m chains h k e b t
 
   -- the places behind the entry that is out lead where they led
-  led_on : (f' : ℕ → Cell) (c : ℕ) → ((p : ℕ) → (p ≡ c → ⊥) → (f' p).next ≡ (at F m p).next) → (ys : List Pointer) (p : ℕ) → Spells F (at F m) p ys → (p ≡ c → ⊥) → Off F (at F m) ys c
-      → Leads F f' p ys
+  led_on : (f' : ℕ → Cell) (c : ℕ) → ((p : ℕ) → (p ≡ c → ⊥) → (f' p).next ≡ (at F m p).next) → (ys : List Pointer) (p : ℕ)
+      → Spells F (at F m) p ys → (p ≡ c → ⊥) → Off F (at F m) ys c → Leads F f' p ys
   led_on f' c n [] p s d o = ap (λ (i : Pointer). i.held) (n p d) ∙ s
   led_on f' c n (y ∷ ys) p s d o =
       (n p d ∙ s.0, s.1.entry, led_on f' c n ys (node F y.held) s.3 (λ e. o y.held (has_first y ys) (sym e)) (λ z t. o z (has_more y ys z t)))

@@ -1,5 +1,5 @@
 -- The two operations do to the cells what they should, so the memory holds the chains that it should.
-use Rattle.std.proofs.Common.{◌≡◌, ℕ, ◌<◌, true, false, cond, eqb, List, [], ◌∷◌, refl, sym, ap, subst, inl, inr, arith}
+use Rattle.std.proofs.Common.{◌≡◌, ℕ, ◌<◌, true, false, cond, eqb, List, [], ◌∷◌, refl, sym, ap, subst, ◌∙◌, inl, inr, arith}
 use Rattle.std.proofs.lemmas.Bool.{cases_Bool, cases_lt, eqb-true, eqb-false}
 use Rattle.std.proofs.lemmas.Bool.Decides.{nat_tests}
 use Rattle.chains.specs.declared.cells.Pointer.{Pointer}
@@ -43,22 +43,25 @@ module _ (F : ChainTable) (m : List ℕ) (chains : ℕ → List Pointer) (h : Ho
     first_at : (q : ℕ) → at F m₁ q ≡ cond (eqb q c) (record { next = o; back = (at F m c).back }) (at F m q)
     first_at q = put_at F m h.room c _ c_inside (record { held = o_fits.held; label = o_fits.label; back = (decoded_fits (cell m F.cells c)).back }) q
 
-    unhooked_at : (q : ℕ) → at F (unhooked F m x.held) q ≡ cond (eqb q n) (record { next = (at F m₁ n).next; back = c }) (at F m₁ q)
+    unhooked_at : (q : ℕ) → at F (unhooked F m x.held) q
+        ≡ cond (eqb q n) (record { next = (at F m₁ n).next; back = c }) (cond (eqb q c) (record { next = o; back = (at F m c).back }) (at F m q))
     unfolding unhooked
     unhooked_at q =
         let w = put_writes F m c (record { next = o; back = (at F m c).back }) in
         let f = decoded_fits (cell m₁ F.cells n) in
         put_at F m₁ (omega (arith, h.room, w.as_long)) n _ (node_inside F o.held o_fits.held s.near)
         (record { held = f.held; label = f.label; back = omega (arith, c_inside, h.small) }) q
+        ∙ ap (cond (eqb q n) _) (first_at q)
 
     unhooked_is : Unhooks F (at F m) (at F (unhooked F m x.held)) x
-    unhooked_is = record {
-      joined = let a = unhooked_at c in let b = first_at c in let d = first_at n in grind (arith, nat_tests);
-      nexts = λ p d. let a = unhooked_at p in let b = first_at p in let e = first_at n in grind (arith, nat_tests);
-      backs = λ y r d. let a = unhooked_at (node F y.held) in let b = first_at (node F y.held) in let e = node_apart F o.held y.held o_fits.held r.word d in
-          grind (arith, nat_tests);
-      after = λ y r e. let a = unhooked_at (node F y.held) in let b = ap (node F) e in grind (arith, nat_tests);
-    }
+    unhooked_is =
+        let b = first_at n in
+        record {
+          joined = let a = unhooked_at c in grind (arith, nat_tests);
+          nexts = λ p d. let a = unhooked_at p in grind (arith, nat_tests);
+          backs = λ y r d. let a = unhooked_at (node F y.held) in let e = node_apart F o.held y.held o_fits.held r.word d in grind (arith, nat_tests);
+          after = λ y r e. let a = unhooked_at (node F y.held) in let d = ap (node F) e in grind (arith, nat_tests);
+        }
 
     holds_out : Holds F (unhooked F m x.held) (λ j. out_of x.held (chains j))
     holds_out = record {
@@ -74,11 +77,10 @@ module _ (F : ChainTable) (m : List ℕ) (chains : ℕ → List Pointer) (h : Ho
     it = stands F (at F m) h.headed (chains k) k e (h.spelled k b) t
 
     pub unhooked_nexts : (p : ℕ) → (p ≡ (at F m (node F e)).back → ⊥) → (at F (unhooked F m e) p).next ≡ (at F m p).next
-    unhooked_nexts =
-        subst (λ (i : ℕ). (p : ℕ) → (p ≡ (at F m (node F i)).back → ⊥) → (at F (unhooked F m i) p).next ≡ (at F m p).next) it.1 (unhooked_is it.0 it.2).nexts
+    unhooked_nexts = rw (← it.1) (unhooked_is it.0 it.2).nexts
 
     pub holds_unhooked : Holds F (unhooked F m e) (λ j. out_of e (chains j))
-    holds_unhooked = subst (λ (i : ℕ). Holds F (unhooked F m i) (λ j. out_of i (chains j))) it.1 (holds_out it.0 it.2)
+    holds_unhooked = rw (← it.1) (holds_out it.0 it.2)
 
 module _ (F : ChainTable) (m : List ℕ) (chains : ℕ → List Pointer) (h : Holds F m chains) (k : ℕ) (b : k < F.heads) (x : Pointer) (r : InRange F x)
     (absent : (j : ℕ) → j < F.heads → has x.held (chains j) ≡ false) where
@@ -104,14 +106,12 @@ module _ (F : ChainTable) (m : List ℕ) (chains : ℕ → List Pointer) (h : Ho
   other [] s t e = omega (arith, r.entry)
   other (y ∷ ys) s t e = let q = s.0 in grind (arith, nat_tests)
 
-  second_at : (q : ℕ) → at F m₂ q ≡ cond (eqb q own) (record { next = old; back = k }) (at F m q)
-  second_at q = put_at F m h.room own _ (node_inside F x.held r.word r.inside)
-      (record { held = old_fits.held; label = old_fits.label; back = omega (arith, b, h.headed, h.small) }) q
-
-  third_at : (q : ℕ) → at F m₃ q ≡ cond (eqb q k) (record { next = x; back = 0 }) (at F m₂ q)
+  third_at : (q : ℕ) → at F m₃ q ≡ cond (eqb q k) (record { next = x; back = 0 }) (cond (eqb q own) (record { next = old; back = k }) (at F m q))
   third_at q =
       let w = put_writes F m own (record { next = old; back = k }) in
       put_at F m₂ (omega (arith, h.room, w.as_long)) k _ (omega (arith, b, h.headed)) (record { held = r.word; label = r.label; back = omega arith }) q
+      ∙ ap (cond (eqb q k) _) (put_at F m h.room own _ (node_inside F x.held r.word r.inside)
+      (record { held = old_fits.held; label = old_fits.label; back = omega (arith, b, h.headed, h.small) }) q)
 
   pushed_at : (q : ℕ) → at F (pushed F m k x) q ≡ cond (eqb q next) (record { next = (at F m₃ next).next; back = own }) (at F m₃ q)
   unfolding pushed
@@ -119,21 +119,22 @@ module _ (F : ChainTable) (m : List ℕ) (chains : ℕ → List Pointer) (h : Ho
       let v = put_writes F m own (record { next = old; back = k }) in
       let w = put_writes F m₂ k (record { next = x; back = 0 }) in
       let f = decoded_fits (cell m₃ F.cells next) in
-      put_at F m₃ (omega (arith, h.room, v.as_long, w.as_long)) next _ (node_inside F old.held old_fits.held (near_is F (at F m) h.headed (chains k) k (h.spelled k b)))
+      let l = near_is F (at F m) h.headed (chains k) k (h.spelled k b) in
+      put_at F m₃ (omega (arith, h.room, v.as_long, w.as_long)) next _ (node_inside F old.held old_fits.held l)
       (record { held = f.held; label = f.label; back = omega (arith, node_inside F x.held r.word r.inside, h.small) }) q
 
   pushed_is : Pushes F (at F m) (at F (pushed F m k x)) k x
   pushed_is =
       let n = node_above F old.held k b in let d = node_above F x.held k b in
       let e = node_apart F old.held x.held old_fits.held r.word (other (chains k) (h.spelled k b) (absent k b)) in
-      let a = third_at next in let s = second_at next in
+      let a = third_at next in
       record {
         front = let g = pushed_at k in let t = third_at k in grind (arith, nat_tests);
-        own_next = let g = pushed_at own in let t = third_at own in let z = second_at own in grind (arith, nat_tests);
-        own_back = let g = pushed_at own in let t = third_at own in let z = second_at own in grind (arith, nat_tests);
-        nexts = λ p u v. let g = pushed_at p in let t = third_at p in let z = second_at p in grind (arith, nat_tests);
+        own_next = let g = pushed_at own in let t = third_at own in grind (arith, nat_tests);
+        own_back = let g = pushed_at own in let t = third_at own in grind (arith, nat_tests);
+        nexts = λ p u v. let g = pushed_at p in let t = third_at p in grind (arith, nat_tests);
         backs = λ y i u v.
-            let g = pushed_at (node F y.held) in let t = third_at (node F y.held) in let z = second_at (node F y.held) in let j = node_above F y.held k b in
+            let g = pushed_at (node F y.held) in let t = third_at (node F y.held) in let j = node_above F y.held k b in
             let l = node_apart F old.held y.held old_fits.held i.word v in let o = node_apart F y.held x.held i.word r.word u in grind (arith, nat_tests);
         after = λ y i u v. let g = pushed_at (node F y.held) in let w = ap (node F) v in grind (arith, nat_tests);
       }

@@ -25,13 +25,15 @@ module _ (F : ChainTable) (f f' : ℕ → Cell) (k : ℕ) (x : Pointer) (b : k <
   stays (y ∷ ys) p s h n o =
       let d : y.held ≡ x.held → ⊥ = λ (z : y.held ≡ x.held). grind (arith, nat_tests) in
       let v = u.backs y s.1 d in let w = behind y s.1 in
-      (u.nexts p n o ∙ s.0, s.1, grind (arith, nat_tests), stays ys (node F y.held) s.3 (grind arith) (λ z. node_above F y.held k b (sym z)) (node_apart F y.held x.held s.1.word r.word d))
+      let m = stays ys (node F y.held) s.3 (grind arith) (λ z. node_above F y.held k b (sym z)) (node_apart F y.held x.held s.1.word r.word d) in
+      (u.nexts p n o ∙ s.0, s.1, grind (arith, nat_tests), m)
 
   moved : (xs : List Pointer) → Spells F f k xs → has x.held xs ≡ false → Spells F f' (node F x.held) xs
   moved [] s h = ap (λ (i : Pointer). i.held) u.own_next ∙ s
   moved (y ∷ ys) s h =
       let d : y.held ≡ x.held → ⊥ = λ (z : y.held ≡ x.held). grind (arith, nat_tests) in
-      (u.own_next ∙ s.0, s.1, u.after y s.1 d (ap (λ (i : Pointer). i.held) s.0), stays ys (node F y.held) s.3 (grind arith) (λ z. node_above F y.held k b (sym z)) (node_apart F y.held x.held s.1.word r.word d))
+      let m = stays ys (node F y.held) s.3 (grind arith) (λ z. node_above F y.held k b (sym z)) (node_apart F y.held x.held s.1.word r.word d) in
+      (u.own_next ∙ s.0, s.1, u.after y s.1 d (ap (λ (i : Pointer). i.held) s.0), m)
 
   pub comes : (xs : List Pointer) → Spells F f k xs → has x.held xs ≡ false → Spells F f' k (x ∷ xs)
   comes xs s h = (u.front, r, u.own_back, moved xs s h)

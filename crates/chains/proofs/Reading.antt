@@ -85,7 +85,8 @@ module _ (F : ChainTable) (f : ℕ → Cell) where
       omega (arith, length-map xs (λ (y : Pointer). y.held))
 
   -- an entry of two chains: the places of both are the same back to the heads
-  meets : (xs ys : List Pointer) (p k h : ℕ) → k < F.heads → Spells F f p xs → Spells F f k ys → has h xs ≡ true → has h ys ≡ true → (p ≡ k → ⊥) → Off ys p → ⊥
+  meets : (xs ys : List Pointer) (p k h : ℕ) → k < F.heads → Spells F f p xs → Spells F f k ys → has h xs ≡ true → has h ys ≡ true
+      → (p ≡ k → ⊥) → Off ys p → ⊥
   meets [] ys p k h b s t e d n o = cc
   meets (x ∷ xs) ys p k h b s t e d n o = elim (cases_Bool (has x.held ys)) [
     | inl u ↦ held_off ys k x.held p t u n o s.2
@@ -94,7 +95,8 @@ module _ (F : ChainTable) (f : ℕ → Cell) where
         meets xs ys (node F x.held) k h b s.3 t (grind (arith, nat_tests)) d (λ q. node_above F x.held k b (sym q)) (off_node x ys k t s.1.word u)
   ]
 
-  pub one_chain : (xs ys : List Pointer) (j k h : ℕ) → j < F.heads → k < F.heads → Spells F f j xs → Spells F f k ys → has h xs ≡ true → has h ys ≡ true → j ≡ k
+  pub one_chain : (xs ys : List Pointer) (j k h : ℕ) → j < F.heads → k < F.heads → Spells F f j xs → Spells F f k ys
+      → has h xs ≡ true → has h ys ≡ true → j ≡ k
   one_chain xs ys j k h a b s t e d = elim (cases_eq j k) [ inl q ↦ q | inr n ↦ absurd (meets xs ys j k h b s t e d n (λ z w. node_above F z j a)) ]
 
   -- the rest of a chain, behind some of it

@@ -51,13 +51,17 @@ module _ (F : ChainTable) (f f' : ℕ → Cell) (x : Pointer) (a : Stands F f x)
   abbrev Went : ℕ → ℕ → Type 0
   Went p q = ((p ≡ q) × (p ≡ own → ⊥)) ⊎ ((p ≡ own) × (q ≡ holder) × (q ≡ own → ⊥))
 
-  kept : (y : Pointer) (ys : List Pointer) (p q : ℕ) → (y.held ≡ x.held → ⊥) → Spells F f p (y ∷ ys) → Went p q → ((f' q).next ≡ y) × ((f' (node F y.held)).back ≡ q)
-  kept y ys p q n s w = let u₁ = u.nexts p in let u₂ = u.backs y s.1 in let u₃ = u.after y s.1 in let v = a.behind y s.1 in grind (arith, nat_tests)
+  kept : (y : Pointer) (ys : List Pointer) (p q : ℕ) → (y.held ≡ x.held → ⊥) → Spells F f p (y ∷ ys) → Went p q
+      → ((f' q).next ≡ y) × ((f' (node F y.held)).back ≡ q)
+  kept y ys p q n s w = let i = u.nexts p in let j = u.backs y s.1 in let k = u.after y s.1 in let v = a.behind y s.1 in grind (arith, nat_tests)
 
   pub unhooks : (xs : List Pointer) (p q : ℕ) → Spells F f p xs → Went p q → Spells F f' q (out_of x.held xs)
   unhooks [] p q s w = let n = u.nexts p in grind (arith, nat_tests)
   unhooks (y ∷ ys) p q s w = elim (cases_eq y.held x.held) [
-    | inl e ↦ let o : node F y.held ≡ own = ap (node F) e in rw (e, eq-eqb x.held x.held refl) (unhooks ys (node F y.held) q s.3 (grind (arith, nat_tests)))
-    | inr n ↦ let k = kept y ys p q n s w in let t : eqb y.held x.held ≡ false = grind (arith, nat_tests) in
-        rw t (k.0, s.1, k.1, unhooks ys (node F y.held) (node F y.held) s.3 (inl (refl, λ (e : node F y.held ≡ own). node_apart F y.held x.held s.1.word a.range.word n e)))
+    | inl e ↦
+        let o : node F y.held ≡ own = ap (node F) e in
+        rw (e, eq-eqb x.held x.held refl) (unhooks ys (node F y.held) q s.3 (grind (arith, nat_tests)))
+    | inr n ↦
+        let k = kept y ys p q n s w in let t : eqb y.held x.held ≡ false = grind (arith, nat_tests) in
+        rw t (k.0, s.1, k.1, unhooks ys (node F y.held) (node F y.held) s.3 (inl (refl, node_apart F y.held x.held s.1.word a.range.word n)))
   ]

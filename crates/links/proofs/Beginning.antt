@@ -22,7 +22,8 @@ unfolding Lies
 lies = (refl, refl)
 
 module _ (m : List ℕ) (l : length m ≡ MEMORY) (z : (c : Column) (i : ℕ) → among columns c ≡ true → cell m c i ≡ 0) where
-  empty : (F : ChainTable) → F.cells.base + F.cells.size ≤ MEMORY → F.cells.size ≤ CELLS → F.heads < F.cells.size → among columns F.cells ≡ true → Holds F m (λ k. [])
+  empty : (F : ChainTable) → F.cells.base + F.cells.size ≤ MEMORY → F.cells.size ≤ CELLS → F.heads < F.cells.size → among columns F.cells ≡ true
+      → Holds F m (λ k. [])
   unfolding EachBegins
   empty F r s h a = each_begins F m (omega (arith, l)) s h (λ k b. z F.cells k a)
 

@@ -2,7 +2,8 @@
 use Rattle.std.proofs.Common.{◌≡◌, ℕ, ◌+◌, ◌-◌, ◌<◌, ◌≤◌, true, not, eqb, List, [], ◌∷◌, ◌++◌, filter, length, sym, subst, append_assoc, inl, inr, arith}
 use Rattle.std.proofs.lemmas.Bool.{cases_Bool}
 use Rattle.std.proofs.lemmas.Bool.Decides.{nat_tests}
-use Rattle.memory.specs.Footprints.{clear, clear_all, view}
+use Rattle.memory.specs.declared.column.Column.{Column}
+use Rattle.memory.specs.Footprints.{clear, clear_all, Writes, view}
 use Rattle.memory.proofs.Footprints.{kept}
 use Rattle.order.specs.declared.board.Link.{Link}
 use Rattle.chains.specs.declared.chain_table.ChainTable.{ChainTable}
@@ -37,8 +38,13 @@ pub record Beside (G : ChainTable) (key label : Link → ℕ) (m : List ℕ) (L 
   pub across : Holds G m (part key label L)
   pub rest : Rest (view inner m) 0 L free
 
-pub given_back : (G : ChainTable) (key label : Link → ℕ) → Side G key → (m : List ℕ) (L : List Entry) → Beside G key label m L → (e : ℕ) → listed e L ≡ true
-    → Beside G key label (freed (unhooked G m e) e) (others e L)
+pub beside_kept : (G : ChainTable) (key label : Link → ℕ) (fs : List Column) → clear fs G.cells ≡ true → clear_all fs inner ≡ true → (m n : List ℕ)
+    → Writes fs m n → (L : List Entry) → Beside G key label m L → Beside G key label n L
+beside_kept G key label fs c d m n w L h =
+    record { free = h.free; across = holds_kept G w c h.across; rest = kept fs inner d m n w (λ v. Rest v 0 L h.free) h.rest }
+
+pub given_back : (G : ChainTable) (key label : Link → ℕ) → Side G key → (m : List ℕ) (L : List Entry) → Beside G key label m L → (e : ℕ)
+    → listed e L ≡ true → Beside G key label (freed (unhooked G m e) e) (others e L)
 given_back G key label s m L h e t = record {
   free = pointer e 0 ∷ h.free;
   across = holds_kept G (freed_writes _ e) s.stays (went G key label m L h.across e s.below h.rest.between t);
@@ -64,7 +70,8 @@ module _ (F G : ChainTable) (key label : Link → ℕ) (sf : Side F key) (sg : S
         let k = dropping M K (f - 1) _ (node F y.number) (leads_kept F (stepped_writes F G m y.number) c (part key label M s) _ i.2) (omega arith) g in
         rw (t, dropped_some F G m p f (f - 1) (point label y) (omega arith) (met_some F m p (point label y) i.0 i.1)) k
     | inr t ↦
-        let k = dropping M (K ++ y ∷ []) f m p (rw t at l) (rw t at b) (subst (λ (N : List Entry). Beside G label key m N) (sym (append_assoc K (y ∷ []) M)) h) in
+        let g = subst (λ (N : List Entry). Beside G label key m N) (sym (append_assoc K (y ∷ []) M)) h in
+        let k = dropping M (K ++ y ∷ []) f m p (rw t at l) (rw t at b) g in
         rw t (subst (λ (N : List Entry). Beside G label key (dropped f F G m p) N) (append_assoc K (y ∷ []) (left M)) k)
   ]
 
@@ -88,9 +95,5 @@ module _ (F G : ChainTable) (key label : Link → ℕ) (sf : Side F key) (sg : S
         let a = h.spelled s b in
         let l = short F (at F m) (part key label L s) s a (head_off F (at F m) (part key label L s) s b) in
         let z = sf.size in
-        let r = dropping L [] ENTRIES m s (leads F (at F m) (part key label L s) s a) (omega arith) t in
-        record {
-          free = r.free;
-          across = holds_kept G (cleared_writes F n s) d r.across;
-          rest = kept (F.cells ∷ []) inner sf.apart n _ (cleared_writes F n s) (λ v. Rest v 0 (left L) r.free) r.rest;
-        }
+        beside_kept G label key (F.cells ∷ []) d sf.apart n _ (cleared_writes F n s) (left L)
+        (dropping L [] ENTRIES m s (leads F (at F m) (part key label L s) s a) (omega arith) t)

@@ -35,14 +35,17 @@ module _ (m : List ℕ) (h : IsTable m) where
   t = h.table.table
 
   -- what is told along the chain of a slot, and whether a number is told
-  module _ (F : ChainTable) (key label : Link → ℕ) (c : Holds F m (part key label L)) (s : ℕ) (b : s < F.heads) (z : F.cells.size ≤ F.heads + ENTRIES + 1) where
+  module _ (F : ChainTable) (key label : Link → ℕ) (c : Holds F m (part key label L)) (s : ℕ) (b : s < F.heads)
+      (z : F.cells.size ≤ F.heads + ENTRIES + 1) where
     walked_gives : map (λ x. x.label) (walked ENTRIES F m s) ≡ reverse (map label (kept (λ y. eqb (key y) s) (edges m)))
     walked_gives =
         let w = walked_is F m (part key label L) s c b z in let a = labels label (filter (λ y. eqb (key y.link) s) L) in
         let k = links_filter (λ y. eqb (key y) s) L in let e = edges_kept m L h.table.free t (λ y. eqb (key y) s) in
-        let r = map_reverse label (kept (λ y. eqb (key y) s) (links_of L)) in let u = reverse-reverse (map label (kept (λ y. eqb (key y) s) (links_of L))) in cc
+        let r = map_reverse label (kept (λ y. eqb (key y) s) (links_of L)) in
+        let u = reverse-reverse (map label (kept (λ y. eqb (key y) s) (links_of L))) in cc
 
-    walked_has : (k : ℕ) (r : Link → Bool) → ((y : Link) → r y ≡ (eqb (key y) s && eqb (label y) k)) → any (λ x. eqb x.label k) (walked ENTRIES F m s) ≡ any r (edges m)
+    walked_has : (k : ℕ) (r : Link → Bool) → ((y : Link) → r y ≡ (eqb (key y) s && eqb (label y) k))
+        → any (λ x. eqb x.label k) (walked ENTRIES F m s) ≡ any r (edges m)
     walked_has k r e =
         let w = walked_gives in let a = any_map (λ i. eqb i k) (λ (x : Pointer). x.label) (walked ENTRIES F m s) in
         let u = any_reverse (λ i. eqb i k) (map label (kept (λ y. eqb (key y) s) (edges m))) in

@@ -1,7 +1,6 @@
 -- A table stays a table: when a link goes, and when all of a slot go.
 use Rattle.std.proofs.Common.{◌≡◌, ℕ, ◌+◌, ◌<◌, not, true, eqb, List, ◌∷◌, [], filter, length, refl, lit≤, arith}
 use Rattle.memory.specs.Footprints.{view}
-use Rattle.memory.proofs.Footprints.{kept}
 use Rattle.order.specs.declared.board.TheConstants.{CARDS}
 use Rattle.chains.specs.declared.cells.Pointer.{Pointer}
 use Rattle.chains.specs.Chains.{Holds}
@@ -14,7 +13,7 @@ use Rattle.links.proofs.Pairing.{between_parts}
 use Rattle.links.proofs.Writing.{stepped_writes}
 use Rattle.links.proofs.Coming.{went}
 use Rattle.links.proofs.Freeing.{inner, Rest}
-use Rattle.links.proofs.Dropping.{Side, Beside, given_back, slot_emptied, slot_beside}
+use Rattle.links.proofs.Dropping.{Side, Beside, beside_kept, given_back, slot_emptied, slot_beside}
 
 side_out : Side OUT (λ x. x.from)
 side_out = record { below = λ z b. (between_parts z b).0; size = lit≤ tt; apart = refl; stays = refl }
@@ -58,22 +57,21 @@ module _ (m : List ℕ) (L : List Entry) where
   table_in h b = (b.free, table_of b.free b.across h b.rest)
 
 module _ (m : List ℕ) (L : List Entry) (free : List Pointer) (t : TableOf (view columns m) L free) where
-  -- an entry goes
-  pub table_less : (e : ℕ) → listed e L ≡ true → TableFor (freed (unhooked IN (unhooked OUT m e) e) e) (others e L)
-  table_less e l =
-      let w = unhooked_writes OUT m e in
-      let h = went OUT (λ x. x.from) (λ x. x.to) m L t.outs e side_out.below t.between l in
-      table_out _ (others e L) (holds_kept OUT (stepped_writes OUT IN _ e) refl h)
-      (given_back IN (λ x. x.to) (λ x. x.from) side_in _ L
-      (record { free = free; across = holds_kept IN w refl t.ins; rest = kept (OUT.cells ∷ []) inner refl m _ w (λ v. Rest v 0 L free) (rest_of m L free t) }) e l)
-
-  -- all of a slot go
   beside_out : Beside OUT (λ x. x.from) (λ x. x.to) m L
   beside_out = record { free = free; across = t.outs; rest = rest_of m L free t }
 
   beside_in : Beside IN (λ x. x.to) (λ x. x.from) m L
   beside_in = record { free = free; across = t.ins; rest = rest_of m L free t }
 
+  -- an entry goes
+  pub table_less : (e : ℕ) → listed e L ≡ true → TableFor (freed (unhooked IN (unhooked OUT m e) e) e) (others e L)
+  table_less e l =
+      let h = went OUT (λ x. x.from) (λ x. x.to) m L t.outs e side_out.below t.between l in
+      table_out _ (others e L) (holds_kept OUT (stepped_writes OUT IN _ e) refl h)
+      (given_back IN (λ x. x.to) (λ x. x.from) side_in _ L
+      (beside_kept IN (λ x. x.to) (λ x. x.from) (OUT.cells ∷ []) refl refl m _ (unhooked_writes OUT m e) L beside_in) e l)
+
+  -- all of a slot go
   module _ (s : ℕ) (b : s < CARDS) where
     pub table_less_out : TableFor (emptied OUT IN m s) (filter (λ y. not (eqb y.link.from s)) L)
     table_less_out =

@@ -12,7 +12,8 @@ module _ (F G : ChainTable) (m : List ℕ) (p : ℕ) where
   dropped_none zero e = refl
   dropped_none (suc f) e = rw e refl
 
-  pub dropped_some : (f g : ℕ) (x : Pointer) → f ≡ suc g → met F m p ≡ Some x → dropped f F G m p ≡ dropped g F G (freed (unhooked G m x.held) x.held) (node F x.held)
+  pub dropped_some : (f g : ℕ) (x : Pointer) → f ≡ suc g → met F m p ≡ Some x
+      → dropped f F G m p ≡ dropped g F G (freed (unhooked G m x.held) x.held) (node F x.held)
   unfolding dropped
   dropped_some f g x i e = ap (λ (n : ℕ). dropped n F G m p) i ∙ rw e refl
 
