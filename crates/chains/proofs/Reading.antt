@@ -81,7 +81,7 @@ module _ (F : ChainTable) (f : ℕ → Cell) where
       let d = IsDistinct-cons eqb 0 ns (other_numbers 0 (x ∷ xs) (none_zero (x ∷ xs) p s)) (distinct (x ∷ xs) p s o) in
       let b = length-le_from_distinct_below (0 ∷ ns) (F.cells.size - F.heads) d
       (λ (h : ℕ) (t : list_any (eqb h) (0 ∷ ns) ≡ true).
-        let r = range_of (x ∷ xs) p h s in let n = numbers_has h (x ∷ xs) in let i = s.1.inside in grind (arith, nat_tests)) in
+      let r = range_of (x ∷ xs) p h s in let n = numbers_has h (x ∷ xs) in let i = s.1.inside in grind (arith, nat_tests)) in
       omega (arith, length-map xs (λ (y : Pointer). y.held))
 
   -- an entry of two chains: the places of both are the same back to the heads

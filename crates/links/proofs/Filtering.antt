@@ -1,4 +1,4 @@
--- Filters, one behind the other and side by side.
+-- What is left of a list and which of it pass a test, also of filters behind one another and of lists the other way round.
 use Rattle.std.proofs.Common.{◌≡◌, ℕ, ◌+◌, ◌≤◌, Bool, true, false, not, ◌&&◌, ◌||◌, eqb, leb, List, [], ◌∷◌, ◌++◌, map, filter, reverse, refl, append-nil, arith}
 use Rattle.std.specs.List.{list_all, list_any}
 use Rattle.std.proofs.lemmas.Bool.Decides.{nat_tests}
