@@ -1,5 +1,5 @@
 -- Downward: the last word that the summary names, and the last marked place.
-use Rattle.std.proofs.Common.{◌≡◌, ℕ, zero, suc, ◌+◌, ◌-◌, ◌*◌, ◌/◌, ◌%◌, ◌^◌, ◌<◌, ◌≤◌, Bool, min, true, cond, eqb, ltb, List, Some, None, Option, arith}
+use Rattle.std.proofs.Common.{◌≡◌, ℕ, zero, suc, ◌+◌, ◌-◌, ◌*◌, ◌/◌, ◌^◌, ◌<◌, ◌≤◌, Bool, min, cond, eqb, ltb, List, Some, None, Option, arith}
 use Rattle.std.proofs.lemmas.Bool.{ltb-true, ltb-false, eqb-true, eqb-false, cond_both}
 use Rattle.memory.specs.declared.place_set.TheConstants.{PLACES, WORDS}
 use Rattle.memory.specs.declared.column.Column.{Column}

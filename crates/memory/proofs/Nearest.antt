@@ -1,5 +1,5 @@
 -- The number of a run that passes a test and is nearest: the first of a run that goes up, the last of one that goes down. R r q: r is nearer than q.
-use Rattle.std.proofs.Common.{◌≡◌, ℕ, ◌+◌, ◌/◌, ◌*◌, ◌<◌, ◌≤◌, Bool, true, false, cond, ◌⊎◌, Some, None, Option, refl, sym, ap, ◌∙◌, ⊎_elim, arith}
+use Rattle.std.proofs.Common.{◌≡◌, ℕ, ◌/◌, ◌<◌, Bool, true, false, cond, ◌⊎◌, Some, None, Option, refl, ap, ◌∙◌, ⊎_elim}
 use Rattle.std.proofs.lemmas.Bool.{cases_eq, cond_both, both_ways}
 use Rattle.memory.specs.Options.{given, or_else}
 
