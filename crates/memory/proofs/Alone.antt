@@ -1,13 +1,12 @@
 -- Only the column itself is written, and what is marked depends on its cells alone.
-use Rattle.std.proofs.Common.{◌≡◌, ℕ, zero, suc, ◌+◌, ◌/◌, ◌%◌, ◌^◌, Bool, not, ◌&&◌, ◌||◌, eqb, ltb, List, [], ◌∷◌, Some, None, Option, sym, ap, ◌∙◌, arith}
-use lib.Bits.{bit_xor}
+use Rattle.std.proofs.Common.{◌≡◌, ℕ, zero, suc, ◌+◌, ◌/◌, ◌%◌, Bool, not, ◌&&◌, eqb, ltb, List, [], ◌∷◌, Some, None, Option, sym, ap, ◌∙◌, arith}
 use Rattle.std.proofs.lemmas.Nat.{xor_lt, pow_below}
 use Rattle.memory.specs.declared.place_set.TheConstants.{PLACES, WORDS, TOPS}
 use Rattle.memory.specs.declared.column.Column.{Column}
 use Rattle.memory.specs.Columns.{cell, written}
 use Rattle.memory.specs.Options.{given}
 use Rattle.memory.specs.Footprints.{Writes}
-use Rattle.memory.specs.PlaceSets.{digit, bit, marked, flipped, toggled, fresh, added, removed, word_up, cleared, untopped, wiped}
+use Rattle.memory.specs.PlaceSets.{digit, bit, marked, flipped, toggled, fresh, added, word_up, cleared, untopped, wiped}
 use Rattle.memory.specs.PlaceSetLaws.{CellsAlone}
 use Rattle.memory.proofs.Cells.{small_cell}
 use Rattle.memory.proofs.Footprints.{same, on, either, put_one}

@@ -1,11 +1,8 @@
 -- The laws that the functions of sets of places name in their contracts, from what their models do.
-use Rattle.std.proofs.Common.{◌≡◌, ℕ, ◌<◌, ◌≤◌, Bool, not, ◌&&◌, ◌||◌, eqb, ltb, List, Option, ⊎_elim, arith}
-use Rattle.std.proofs.lemmas.Bool.{cases_lt}
-use Rattle.std.proofs.lemmas.Bool.Decides.{nat_tests}
+use Rattle.std.proofs.Common.{◌≡◌, ℕ, Bool, List, Option}
 use Rattle.memory.specs.declared.column.Column.{Column}
-use Rattle.memory.specs.declared.place_set.TheConstants.{PLACES}
 use Rattle.memory.specs.PlaceSets.{marked, fresh, added, removed, next_up, first_mark, next_down, wiped}
-use Rattle.memory.specs.PlaceSetLaws.{Summed, Adds, Removes, Wipes, NextUp, NextDown, Firsts}
+use Rattle.memory.specs.PlaceSetLaws.{Adds, Removes, Wipes, NextUp, NextDown, Firsts}
 use Rattle.memory.proofs.Adding.{adding_any, removing}
 use Rattle.memory.proofs.Upward.{going_up, first_of_all}
 use Rattle.memory.proofs.Downward.{going_down}

@@ -1,5 +1,5 @@
 -- What turning a bit changes, and what it leaves.
-use Rattle.std.proofs.Common.{◌≡◌, ℕ, ◌+◌, ◌/◌, ◌%◌, ◌^◌, ◌<◌, ◌≤◌, cond, not, eqb, List, length, ap, ◌∙◌, subst, ⊎_elim, arith}
+use Rattle.std.proofs.Common.{◌≡◌, ℕ, ◌+◌, ◌/◌, ◌%◌, ◌^◌, ◌<◌, ◌≤◌, cond, not, eqb, List, length, ⊎_elim, arith}
 use lib.Bits.{bit_xor}
 use Rattle.std.proofs.lemmas.Nat.{xor_lt, pow_below}
 use Rattle.std.proofs.lemmas.Bool.{cases_eq}
@@ -7,7 +7,7 @@ use Rattle.std.proofs.lemmas.Bool.Decides.{nat_tests}
 use Rattle.memory.specs.declared.column.Column.{Column}
 use Rattle.memory.specs.Columns.{cell}
 use Rattle.memory.proofs.Cells.{length_written, cell_same, cell_other}
-use Rattle.memory.specs.PlaceSets.{digit, bit, flipped}
+use Rattle.memory.specs.PlaceSets.{bit, flipped}
 use Rattle.memory.proofs.Words.{digit_turned, digit_kept}
 
 pub length_flipped : (m : List ℕ) (c : Column) (s i : ℕ) → length (flipped m c s i) ≡ length m
