@@ -15,7 +15,7 @@ use Rattle.search.specs.Meaning.{Parted}
 use Rattle.search.specs.HuntLaws.{Found}
 use Rattle.search.proofs.Between.{Setting, part_tells}
 use Rattle.search.proofs.Sounding.{Sound}
-use Rattle.search.proofs.Entering.{which}
+use Rattle.search.proofs.Entering.{each_side}
 use Rattle.search.proofs.Parting.{Closed, parted}
 use Rattle.search.proofs.Cursors.{passed, ahead_of, some_left}
 use Rattle.search.proofs.Advancing.{Placed, Fronted, placed_same, Tells, goes}
@@ -32,10 +32,9 @@ module _ (m : List ℕ) (a b : ℕ) (S : Setting m a b) where
     passed_none d (Some p) q i = absurd (let z : ◌≡◌ {A = ℕ} 0 1 = cc in omega arith)
 
     closed_both : (d : Side) (q : ℕ) → marked n (marks_of d) q ≡ true → Closed m a b d n q
-    closed_both d q h = elim (which c.side d) [
-      | inl i ↦ rw i (hc.closed q (rw i at h) (passed_none c.side c.cursor q ic))
-      | inr i ↦ rw (i ∙ sym o) (he.closed q (rw (i ∙ sym o) at h) (passed_none e.side e.cursor q ie))
-    ]
+    closed_both =
+        each_side (λ d. (q : ℕ) → marked n (marks_of d) q ≡ true → Closed m a b d n q) c.side (λ q h. hc.closed q h (passed_none c.side c.cursor q ic))
+        (rw (← o) (λ q h. he.closed q h (passed_none e.side e.cursor q ie)))
 
     both_done : Parted m n a b
     both_done = parted m a b S n s closed_both

@@ -1,6 +1,7 @@
 -- The cursor of a search: what it has passed, and how far it has to go.
 use Rattle.std.proofs.Common.{◌≡◌, ℕ, ◌+◌, ◌-◌, ◌<◌, ◌≤◌, Bool, true, false, ltb, ◌⊎◌, List, Some, None, Option, refl, inl, inr, arith}
-use Rattle.std.proofs.lemmas.Bool.{ltb-true, lt-ltb, le-ltb, both_ways, cases_order}
+use Rattle.std.proofs.lemmas.Bool.{ltb-true, lt-ltb, le-ltb, both_ways}
+use Rattle.std.proofs.lemmas.Bool.Decides.{nat_tests}
 use Rattle.search.specs.declared.side.Side.{Side}
 use Rattle.search.specs.declared.side.Side.TheVariants.{Fore, Hind}
 use Rattle.memory.specs.declared.place_set.TheConstants.{PLACES}
@@ -52,24 +53,18 @@ passed_more Fore f p q (Some c) k h = lt-ltb q c (omega (arith, k.0, ltb-true q 
 passed_more Hind f p q (Some c) k h = lt-ltb c q (omega (arith, k.0, ltb-true p q h))
 
 -- nothing that passes the test lies between
+lower : (p q : ℕ) → (p < q → ⊥) → (ltb q p ≡ true) ⊎ (q ≡ p)
+lower p q n = grind (arith, nat_tests)
+
+upper : (p q : ℕ) → (q < p → ⊥) → (ltb p q ≡ true) ⊎ (q ≡ p)
+upper p q n = grind (arith, nat_tests)
+
 pub passed_tells : (d : Side) (f : ℕ → Bool) (p q : ℕ) (o : Option ℕ) → Nexts d f p o → f q ≡ true → passed d o q ≡ true
     → (passed d (Some p) q ≡ true) ⊎ (q ≡ p)
-passed_tells Fore f p q None k t h = elim (cases_order q p) [
-  | inl e ↦ inr e
-  | inr e ↦ elim e [ inl l ↦ inl (lt-ltb q p l) | inr l ↦ absurd (both_ways (f q) (k q l) t) ]
-]
-passed_tells Hind f p q None k t h = elim (cases_order q p) [
-  | inl e ↦ inr e
-  | inr e ↦ elim e [ inl l ↦ absurd (both_ways (f q) (k q l) t) | inr l ↦ inl (lt-ltb p q l) ]
-]
-passed_tells Fore f p q (Some c) k t h = elim (cases_order q p) [
-  | inl e ↦ inr e
-  | inr e ↦ elim e [ inl l ↦ inl (lt-ltb q p l) | inr l ↦ absurd (both_ways (f q) (k.2 q l (ltb-true q c h)) t) ]
-]
-passed_tells Hind f p q (Some c) k t h = elim (cases_order q p) [
-  | inl e ↦ inr e
-  | inr e ↦ elim e [ inl l ↦ absurd (both_ways (f q) (k.2 q (ltb-true c q h) l) t) | inr l ↦ inl (lt-ltb p q l) ]
-]
+passed_tells Fore f p q None k t h = lower p q (λ l. both_ways (f q) (k q l) t)
+passed_tells Hind f p q None k t h = upper p q (λ l. both_ways (f q) (k q l) t)
+passed_tells Fore f p q (Some c) k t h = lower p q (λ l. both_ways (f q) (k.2 q l (ltb-true q c h)) t)
+passed_tells Hind f p q (Some c) k t h = upper p q (λ l. both_ways (f q) (k.2 q (ltb-true c q h) l) t)
 
 pub next_there : (d : Side) (f : ℕ → Bool) (p q : ℕ) → Nexts d f p (Some q) → f q ≡ true
 next_there Fore f p q k = k.1
