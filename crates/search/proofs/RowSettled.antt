@@ -2,7 +2,9 @@
 use Rattle.std.proofs.Common.{◌≡◌, ℕ, suc, ◌+◌, ◌-◌, ◌^◌, ◌<◌, ◌≤◌, min, Bool, true, false, ◌&&◌, ◌||◌, leb, List, [], ◌∷◌, ◌++◌, map, length, sym, refl, ap, ◌∙◌, subst, ap₂, arith, length-append}
 use Rattle.std.specs.List.{range_with_len}
 use Rattle.std.proofs.lemmas.List.{length-map}
-use Rattle.std.proofs.lemmas.Bool.{and_parts, le-leb, lt-leb, and_left, and_right}
+use Rattle.std.proofs.lemmas.Bool.{or_left}
+use Rattle.std.proofs.lemmas.Bool.Decides.{nat_tests}
+use Rattle.order.proofs.Places.{has_append}
 use Rattle.order.specs.declared.board.TheConstants.{CARDS}
 use Rattle.order.specs.Lists.{filter, has, place}
 use Rattle.order.specs.Board.{Board, leads, keeps}
@@ -114,37 +116,16 @@ module _ (m m₁ : List ℕ) (a b : ℕ) (R : Ready m) (ua : used m a ≡ true) 
       let q = length-append Q (behind (taken m) lo n (ending m)) in
       omega arith
 
-  at_b : place (row_of m) b ≡ rank m lo
-  at_b = place_slot m R.is_row b ub
-
-  at_a : place (row_of m) a ≡ rank m hi
-  at_a = place_slot m R.is_row a ua
-
   -- what is marked: of the taken seats of the part those whose slot passes a test
   abbrev marks : (ℕ → Bool) → ℕ → Bool
   marks T p = taken m p && (part m a b p && T (slot_on m p))
 
-  in_part : (p : ℕ) → lo ≤ p → p < lo + n → part m a b p ≡ true
-  in_part p l u = rw (le-leb lo p l, le-leb p hi (omega arith))
-
-  part_before : (p : ℕ) → p < lo → part m a b p ≡ false
-  part_before p h = and_left (leb lo p) (leb p hi) (lt-leb lo p h)
-
-  part_behind : (p : ℕ) → lo + n ≤ p → part m a b p ≡ false
-  part_behind p h = and_right (leb lo p) (leb p hi) (lt-leb p hi (omega arith))
-
-  marks_in : (T : ℕ → Bool) (p : ℕ) → lo ≤ p → p < lo + n → marks T p ≡ (taken m p && T (slot p))
-  marks_in T p l u = rw (in_part p l u)
-
-  marks_out : (T : ℕ → Bool) (p : ℕ) → part m a b p ≡ false → marks T p ≡ false
-  marks_out T p h = and_right (taken m p) (part m a b p && T (slot_on m p)) (and_left (part m a b p) (T (slot_on m p)) h)
-
   marked_seats : (T : ℕ → Bool) → Lists (marks T) 0 (filter (λ p. T (slot p)) Q)
   marked_seats T =
       subst (Lists (marks T) 0)
-      (filter_same (marks T) (λ p. taken m p && T (slot p)) (range_with_len lo n) (λ p h. let c = counting_has lo n p h in marks_in T p c.0 c.1)
+      (filter_same (marks T) (λ p. taken m p && T (slot p)) (range_with_len lo n) (λ p h. let c = counting_has lo n p h in grind (arith, nat_tests))
       ∙ sym (filter_both (taken m) (λ p. T (slot p)) (range_with_len lo n)))
-      (lists_filter (marks T) 0 lo n (omega arith) (λ p x y. marks_out T p (part_before p y)) (λ p x. marks_out T p (part_behind p x)))
+      (lists_filter (marks T) 0 lo n (omega arith) (λ p x y. grind (arith, nat_tests)) (λ p x. grind (arith, nat_tests)))
 
   abbrev ps : List ℕ
   ps = those slot A B Q apart_so
@@ -172,16 +153,10 @@ module _ (m m₁ : List ℕ) (a b : ℕ) (R : Ready m) (ua : used m a ≡ true) 
 
   ps_listed : Lists (λ p. marks A p || marks B p) 0 ps
   unfolding those
-  ps_listed = lists_as (marked_seats (either B A))
+  ps_listed = subst (λ (T : ℕ → Bool). Lists T 0 (filter (λ p. either B A (slot p)) Q)) (λ t p. same_marks p t) (marked_seats (either B A))
     where
       same_marks : (p : ℕ) → marks (either B A) p ≡ (marks A p || marks B p)
       same_marks p = grind arith
-
-      both : List ℕ
-      both = filter (λ p. either B A (slot p)) Q
-
-      lists_as : Lists (marks (either B A)) 0 both → Lists (λ p. marks A p || marks B p) 0 both
-      lists_as l = subst (λ (T : ℕ → Bool). Lists T 0 both) (λ t p. same_marks p t) l
 
   -- what is gathered, and where it is put
   abbrev qsA : List ℕ
@@ -203,19 +178,15 @@ module _ (m m₁ : List ℕ) (a b : ℕ) (R : Ready m) (ua : used m a ≡ true) 
   slots_same : (p : ℕ) → cell m₁ SLOTS p ≡ slot p
   slots_same p = P.kept.others SLOTS p refl
 
-  small_slots : (T : ℕ → Bool) (s : ℕ) → has (map slot (filter (λ p. T (slot p)) Q)) s ≡ true → s < 2 ^ 64
-  small_slots T s h =
-      let w = map_has slot (filter (λ p. T (slot p)) Q) s h in
-      let i = and_parts (T (slot w.0)) (has Q w.0) (sym (has_filter (λ p. T (slot p)) Q w.0) ∙ w.1) in
-      let l = R.is_row.stands.seated.low w.0 (in_Q w.0 i.1).2 in
-      let e = w.2 in
-      omega arith
-
   abbrev m₂ : List ℕ
   m₂ = wrote m₁ 0 ks
 
   small_ks : (s : ℕ) → has ks s ≡ true → s < 2 ^ 64
   small_ks s h = let l = slot_low s h in omega arith
+
+  small_hind : (s : ℕ) → has (map slot qsA) s ≡ true → s < 2 ^ 64
+  small_hind s h =
+      small_ks s (ap (λ (xs : List ℕ). has xs s) (sym ks_is) ∙ has_append (map slot qsA) (map slot qsB) s ∙ or_left (has (map slot qsA) s) _ h)
 
   wrote_ks : Writes (CHOSEN ∷ []) m₁ m₂
   wrote_ks = writes_wrote m₁ 0 ks small_ks
@@ -229,7 +200,7 @@ module _ (m m₁ : List ℕ) (a b : ℕ) (R : Ready m) (ua : used m a ≡ true) 
       let few = few_Q in
       let g₁ = gathers_list HIND.column refl (marks A) slot m₁ qsA 0 hind_marks slots_same (marked_seats A)
       (let l = filter_fewer (λ p. A (slot p)) Q in omega arith) in
-      let ww = writes_wrote m₁ 0 kA (small_slots A) in
+      let ww = writes_wrote m₁ 0 kA small_hind in
       let fw = marking_kept (CHOSEN ∷ []) m₁ w FORE.column (marks B) ww refl fore_marks in
       let g₂ = gathers_list FORE.column refl (marks B) slot w qsB (0 + length qsA) fw (λ p. ww.others SLOTS p refl ∙ slots_same p) (marked_seats B)
       (let l = filter_fewer (λ p. B (slot p)) Q in omega arith) in
@@ -302,15 +273,13 @@ module _ (m m₁ : List ℕ) (a b : ℕ) (R : Ready m) (ua : used m a ≡ true) 
     stands =
         as_before (λ v. Standing (v.at COUNT 0) (min (v.at ENDING 0) SEATS_MOST) (v.at FRESH 0) (v.at FREE 0) (v.at IDS) (v.at CHAIN)
         (cell m' SLOTS) (cell m' SEATS) (bit_set (v.at TAKEN)))
-        (standing_again (count m) (ending m) (fresh m) (free m) ps ks (cell m IDS) (cell m CHAIN) slot (cell m SEATS) (taken m) R.is_row.stands rearranged
-        (cell m' SLOTS) (cell m' SEATS) slots_are seats_same);
+        (standing_again _ _ _ _ ps ks _ _ slot _ (taken m) R.is_row.stands rearranged _ _ slots_are seats_same);
   }
 
   used_so : (s : ℕ) → used m' s ≡ used m s
   used_so s =
       as_before (λ v. in_use (cell m' SLOTS) (cell m' SEATS) (bit_set (v.at TAKEN)) s ≡ used m s)
-      (used_same (count m) (ending m) (fresh m) (free m) ps ks (cell m IDS) (cell m CHAIN) slot (cell m SEATS) (taken m) R.is_row.stands rearranged
-      (cell m' SLOTS) (cell m' SEATS) slots_are seats_same s)
+      (used_same _ _ _ _ ps ks _ _ slot _ (taken m) R.is_row.stands rearranged _ _ slots_are seats_same s)
 
   taken_so : (p : ℕ) → taken m' p ≡ taken m p
   taken_so p = as_before (λ v. bit_set (v.at TAKEN) p ≡ taken m p) refl
@@ -329,12 +298,15 @@ module _ (m m₁ : List ℕ) (a b : ℕ) (R : Ready m) (ua : used m a ≡ true) 
   -- that is the firm row
   back_row : place (row_of m) b < place (row_of m) a
   back_row =
-      let x = at_a in let y = at_b in let z = amount_before (taken m) lo hi back (used_seat m R.is_row b ub).0 in
+      let x = place_slot m R.is_row a ua in
+      let y = place_slot m R.is_row b ub in
+      let z = amount_before (taken m) lo hi back (used_seat m R.is_row b ub).0 in
       omega arith
 
   firm_so : row_of m' ≡ firm_row r f a b open_so back_row
   firm_so =
-      row_so ∙ ap₂ (λ (x y : ℕ). with_part (refilled B A) (row_of m) x (suc y)) (sym at_b) (sym at_a) ∙ sym (firm_row_is r f a b open_so back_row)
+      row_so ∙ ap₂ (λ (x y : ℕ). with_part (refilled B A) (row_of m) x (suc y)) (sym (place_slot m R.is_row b ub)) (sym (place_slot m R.is_row a ua))
+      ∙ sym (firm_row_is r f a b open_so back_row)
 
   summed_m₃ : (c : Column) → clear (CHOSEN ∷ []) c ≡ true → clear (SLOTS ∷ SEATS ∷ []) c ≡ true → Summed m₁ c → Summed m₃ c
   unfolding CellsAlone
