@@ -1,7 +1,7 @@
 -- The two searches at their end: each has come to all that it should, or they have met.
 use Rattle.std.proofs.Common.{◌≡◌, ℕ, zero, suc, ◌≤◌, Bool, true, ◌&&◌, List, sym, ap, ◌∙◌, inl, inr, arith}
-use Rattle.std.proofs.lemmas.Bool.{cases_Bool, both_ways, and_parts, and_from}
-use Rattle.order.specs.Board.{leads}
+use Rattle.std.proofs.lemmas.Bool.{false_from_ne_true}
+use Rattle.order.specs.Board.{leads, linked}
 use Rattle.order.proofs.Ways.{Way}
 use Rattle.order.proofs.Climbs.{fine_parts, leads_way}
 use Rattle.memory.specs.Columns.{cell}
@@ -70,64 +70,42 @@ module _ (m : List ℕ) (a b : ℕ) (S : Setting m a b) (n : List ℕ) (s : Soun
 
     just : (p : ℕ) (d : Side) (l : Bool) → (taken m p ≡ true → part m a b p ≡ true → l ≡ true → marked n (marks_of d) p ≡ true) →
         (marked n (marks_of d) p ≡ true → l ≡ true) → marked n (marks_of d) p ≡ (taken m p && (part m a b p && l))
-    just p d l x y = elim (cases_Bool (marked n (marks_of d) p)) [
-      | inl h ↦ let i = s.within d p h in h ∙ sym (and_from (taken m p) _ i.0 (and_from (part m a b p) l i.1 (y h)))
-      | inr h ↦ elim (cases_Bool (taken m p && (part m a b p && l))) [
-        | inl k ↦
-            let t = and_parts (taken m p) _ k in
-            let u = and_parts (part m a b p) l t.1 in
-            absurd (both_ways (marked n (marks_of d) p) h (x t.0 u.0 u.1))
-        | inr k ↦ h ∙ sym k
-      ]
-    ]
+    just p d l x y = let i = s.within d p in grind arith
 
     pub parted : Parted m n a b
     parted = record {
       kept = s.frame;
       fore_summed = s.summed Fore;
       hind_summed = s.summed Hind;
-      no_round = elim (cases_Bool (leads (slot_board m) b a)) [
-        | inr h ↦ h
-        | inl h ↦
-            let w = leads_way (slot_board m) (fine_parts (slot_board m) S.ready.fine_so) b a h in
-            absurd (s.alone Fore (cell m SEATS a) (fore_all w.0 b a w.1 S.b_used (s.start Fore) (omega arith)) (s.start Hind))
-      ];
+      no_round = false_from_ne_true _ (λ h.
+        let w = leads_way (slot_board m) (fine_parts (slot_board m) S.ready.fine_so) b a h in
+        s.alone Fore (cell m SEATS a) (fore_all w.0 b a w.1 S.b_used (s.start Fore) (omega arith)) (s.start Hind));
       fore_is = λ p. just p Fore (leads (slot_board m) b (slot_on m p)) (fore_led p) (s.led Fore p);
       hind_is = λ p. just p Hind (leads (slot_board m) (slot_on m p) a) (hind_led p) (s.led Hind p);
     }
 
   -- they have met
-  rounds : (d : Side) (x t : ℕ) → used m x ≡ true → used m t ≡ true → marked n (marks_of d) (cell m SEATS x) ≡ true → arc (slot_board m) d x t ≡ true
-      → marked n (marks_of (other d)) (cell m SEATS t) ≡ true → leads (slot_board m) b a ≡ true
-  rounds d x t ux ut hx k ht =
-      comes_round m a b S d x t (rw (used_tells m a b S x ux).2 at (s.led d (cell m SEATS x) hx)) k
-      (rw (used_tells m a b S t ut).2 at (s.led (other d) (cell m SEATS t) ht))
+  met_at : (x t : ℕ) → marked n FORE.column (cell m SEATS x) ≡ true → linked (slot_board m) x t ≡ true → marked n HIND.column (cell m SEATS t) ≡ true →
+      Trailed m n a b x t
+  met_at x t hx k ht =
+      let u = arc_tells m a b S Fore x t k in
+      let f = rw (used_tells m a b S x u.0).2 at (s.led Fore (cell m SEATS x) hx) in
+      let g = rw (used_tells m a b S t u.1).2 at (s.led Hind (cell m SEATS t) ht) in
+      record {
+        kept = s.frame;
+        fore_summed = s.summed Fore;
+        hind_summed = s.summed Hind;
+        round = comes_round m a b S x t f k g;
+        x_used = u.0;
+        t_used = u.1;
+        x_fore = hx;
+        t_hind = ht;
+        joined = k;
+        fore_trail = s.trail Fore;
+        hind_trail = s.trail Hind;
+      }
 
   pub trailed : (d : Side) (x t : ℕ) → marked n (marks_of d) (cell m SEATS x) ≡ true → arc (slot_board m) d x t ≡ true
       → marked n (marks_of (other d)) (cell m SEATS t) ≡ true → Trailed m n a b (joined d x t).from (joined d x t).to
-  trailed Fore x t hx k ht = let u = arc_tells m a b S Fore x t k in record {
-    kept = s.frame;
-    fore_summed = s.summed Fore;
-    hind_summed = s.summed Hind;
-    round = rounds Fore x t u.0 u.1 hx k ht;
-    x_used = u.0;
-    t_used = u.1;
-    x_fore = hx;
-    t_hind = ht;
-    joined = k;
-    fore_trail = s.trail Fore;
-    hind_trail = s.trail Hind;
-  }
-  trailed Hind x t hx k ht = let u = arc_tells m a b S Hind x t k in record {
-    kept = s.frame;
-    fore_summed = s.summed Fore;
-    hind_summed = s.summed Hind;
-    round = rounds Hind x t u.0 u.1 hx k ht;
-    x_used = u.1;
-    t_used = u.0;
-    x_fore = ht;
-    t_hind = hx;
-    joined = k;
-    fore_trail = s.trail Fore;
-    hind_trail = s.trail Hind;
-  }
+  trailed Fore x t hx k ht = met_at x t hx k ht
+  trailed Hind x t hx k ht = met_at t x ht k hx
