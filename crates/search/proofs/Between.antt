@@ -1,5 +1,5 @@
 -- The two searches over the board of slots: what a link tells of slots and seats, for both directions at once.
-use Rattle.std.proofs.Common.{◌≡◌, ℕ, ◌<◌, ◌≤◌, Bool, true, leb, List, sym, ◌∙◌, arith}
+use Rattle.std.proofs.Common.{◌≡◌, ℕ, ◌<◌, ◌≤◌, Bool, true, List, sym, ◌∙◌, arith}
 use Rattle.std.proofs.lemmas.Bool.{ltb-true, lt-ltb}
 use Rattle.std.proofs.lemmas.Bool.Decides.{nat_tests}
 use Rattle.order.specs.declared.board.TheConstants.{CARDS}
@@ -14,7 +14,6 @@ use Rattle.row.specs.Meaning.{row_of, used, taken}
 use Rattle.row.proofs.Rows.{Seated, seated, room, sitting, at_seat, has_is, order_is}
 use Rattle.search.specs.declared.side.Side.{Side}
 use Rattle.search.specs.declared.side.Side.TheVariants.{Fore, Hind}
-use Rattle.search.specs.Sides.{other}
 use Rattle.search.specs.Meaning.{slot_board, part, Ready}
 
 -- where a search begins

@@ -1,5 +1,5 @@
 -- The seats of both sets are given to the slots of CHOSEN, one after another.
-use Rattle.std.proofs.Common.{◌≡◌, ℕ, zero, suc, ◌+◌, ◌^◌, ◌<◌, ◌≤◌, Bool, true, ◌||◌, List, [], ◌∷◌, length, Some, None, Option, sym, refl, ap, ◌∙◌, inl, inr, arith}
+use Rattle.std.proofs.Common.{◌≡◌, ℕ, zero, suc, ◌+◌, ◌^◌, ◌<◌, ◌≤◌, Bool, true, ◌||◌, List, [], ◌∷◌, length, Option, refl, ◌∙◌, arith}
 use Rattle.std.proofs.lemmas.Bool.Decides.{nat_tests}
 use Rattle.order.specs.declared.board.TheConstants.{CARDS}
 use Rattle.memory.specs.declared.column.Column.{Column}
@@ -13,11 +13,10 @@ use Rattle.row.proofs.Framing.{put_at_writes}
 use Rattle.memory.proofs.Cells.{length_written, cell_same, cell_other, cell_apart}
 use Rattle.order.proofs.Members.{has_head, has_tail}
 use Rattle.search.specs.declared.layout.TheConstants.{FORE, HIND, CHOSEN}
-use Rattle.memory.specs.PlaceSets.{next_up, first_mark}
 use Rattle.search.specs.Settle.{both_first, both_next, seated, dealt}
 use Rattle.search.proofs.Listed.{From, Lists, from_sooner, from_list}
 use Rattle.search.proofs.Gathering.{Marking, marking_same, from_next, from_first, Reads}
-use Rattle.search.proofs.Exchanged.{with_at, at_here, at_else, exchanged, exchanged_same}
+use Rattle.search.proofs.Exchanged.{with_at, exchanged, exchanged_same}
 
 -- the seats ps given to the SLOTS ks
 unfoldable pub put : List ℕ → List ℕ → List ℕ → List ℕ

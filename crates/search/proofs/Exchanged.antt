@@ -1,10 +1,10 @@
 -- A function with other values at some numbers, given by two lists.
-use Rattle.std.proofs.Common.{◌≡◌, ℕ, Bool, true, false, cond, not, eqb, List, [], ◌∷◌, map, length, sym, refl, ap, ◌∙◌, ap₂, inl, inr, arith}
-use Rattle.std.proofs.lemmas.Bool.{cases_Bool, eq-eqb, ne_eqb, eqb-true, both_ways, and_parts, not-true, or_parts, or_left, or_right}
+use Rattle.std.proofs.Common.{◌≡◌, ℕ, Bool, true, false, cond, eqb, List, [], ◌∷◌, map, length, sym, refl, ap, ◌∙◌, ap₂, inl, inr, arith}
+use Rattle.std.proofs.lemmas.Bool.{cases_Bool, eq-eqb, ne_eqb, eqb-true, both_ways, or_parts, or_left, or_right}
 use Rattle.order.specs.Lists.{any, filter, has, distinct}
 use Rattle.order.proofs.Filters.{has_filter}
 use Rattle.order.proofs.Members.{has_head, has_tail, not_again, distinct_tail}
-use Rattle.order.proofs.Refill.{refill, refill_skip}
+use Rattle.order.proofs.Refill.{refill}
 use Rattle.search.proofs.Mapped.{map_same}
 
 -- g with k at p

@@ -47,14 +47,10 @@ pub record Along (m : List ℕ) (d : Side) (s : ℕ) (xs : List Pointer) : Type 
   pub goals : (t : ℕ) → has (labels xs) t ≡ arc (slot_board m) d s t
   pub long : length xs ≡ entries (near_end d) s (edges m)
 
-any_turned : (f : ℕ → Bool) (xs ys : List ℕ) → any f (reverse_aux xs ys) ≡ (any f xs || any f ys)
+has_turned : (xs ys : List ℕ) (t : ℕ) → has (reverse_aux xs ys) t ≡ (has ys t || has xs t)
 unfolding any
-any_turned f [] ys = refl
-any_turned f (x ∷ xs) ys = any_turned f xs (x ∷ ys) ∙ grind arith
-
-has_turned : (xs : List ℕ) (t : ℕ) → has (reverse xs) t ≡ has xs t
-unfolding any
-has_turned xs t = let e = any_turned (eqb t) xs [] in grind arith
+has_turned [] ys t = grind arith
+has_turned (x ∷ xs) ys t = has_turned xs (x ∷ ys) t ∙ grind arith
 
 has_ends : (p : Link → Bool) (g : Link → ℕ) (t : ℕ) (ls : List Link) → has (map g (filter p ls)) t ≡ any (λ l. p l && eqb (g l) t) ls
 unfolding any filter
@@ -88,7 +84,7 @@ heads_of Fore = (refl, omega arith)
 heads_of Hind = (refl, omega arith)
 
 pub along : (m : List ℕ) → IsTable m → (d : Side) (s : ℕ) → s < CARDS → (xs : List Pointer) × Along m d s xs
-unfolding Reads
+unfolding Reads any
 along m t d s h =
     let T = table_of d in
     let H = held m t d in
@@ -101,7 +97,7 @@ along m t d s h =
       xs,
       record {
         led = leads T (at T m) xs s (H.1.spelled s k);
-        goals = λ t. ap (λ (ys : List ℕ). has ys t) l ∙ has_turned (map (far_end d) ks) t ∙ has_ends (λ l. eqb (near_end d l) s) (far_end d) t (edges m)
+        goals = λ t. ap (λ (ys : List ℕ). has ys t) l ∙ has_turned (map (far_end d) ks) [] t ∙ has_ends (λ l. eqb (near_end d l) s) (far_end d) t (edges m)
             ∙ arc_any m d s t;
         long = sym (length-map xs (λ (x : Pointer). x.label)) ∙ ap length l ∙ length-reverse (map (far_end d) ks) ∙ length-map ks (far_end d)
             ∙ entries_are (near_end d) s (edges m);

@@ -1,7 +1,7 @@
 -- Trails along links: which way they run, how long they are, and that what runs along links from b to a goes round for a link from a to b.
-use Rattle.std.proofs.Common.{◌≡◌, ℕ, zero, suc, ◌+◌, ◌<◌, ◌≤◌, Bool, true, false, ltb, ◌⊎◌, List, [], ◌∷◌, length, refl, ap, ◌∙◌, subst, inl, inr, arith}
+use Rattle.std.proofs.Common.{◌≡◌, ℕ, zero, suc, ◌+◌, ◌<◌, ◌≤◌, Bool, true, ltb, ◌⊎◌, List, [], ◌∷◌, length, refl, ap, ◌∙◌, subst, inl, inr, arith}
 use mathlib.Core.List.{reverse_aux}
-use Rattle.std.proofs.lemmas.Bool.{cases_Bool, cases_eq, eq-eqb, ne_eqb, lt-ltb, ltb-true, and_from, and_parts}
+use Rattle.std.proofs.lemmas.Bool.{false_from_ne_true, cases_eq, eq-eqb, ne_eqb, lt-ltb, ltb-true, and_from, and_parts}
 use Rattle.order.specs.Lists.{every, any, has, place, distinct}
 use Rattle.order.specs.Board.{Board, linked}
 use Rattle.order.specs.Reordering.{follows, last_of, goes_round}
@@ -38,10 +38,7 @@ module _ (r : Board) (D : ℕ → Bool) where
       let l = link_before r f k j p.0 in
       let e : every (λ i. ltb (place r.row k) (place r.row i)) (j ∷ ks) ≡ true =
       and_from _ _ (lt-ltb _ _ l) (every_more _ _ (λ i s. lt-ltb _ _ (omega (arith, ltb-true _ _ s))) ks ih.0) in
-      let n : has (j ∷ ks) k ≡ false = elim (cases_Bool (has (j ∷ ks) k)) [
-        | inl i ↦ absurd (omega (arith, ltb-true _ _ (every_has (λ i. ltb (place r.row k) (place r.row i)) (j ∷ ks) k e i)))
-        | inr i ↦ i
-      ] in
+      let n = false_from_ne_true (has (j ∷ ks) k) (λ i. omega (arith, ltb-true _ _ (every_has (λ i. ltb (place r.row k) (place r.row i)) (j ∷ ks) k e i))) in
       (e, rw n ih.1)
 
   pub runs_round : Fine r → (a b : ℕ) (xs : List ℕ) → Runs r D b a xs → (goes_round r a b xs ≡ true) × (every D xs ≡ true)

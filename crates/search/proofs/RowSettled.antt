@@ -1,5 +1,5 @@
 -- After a search that came to its end, settling makes the firm row.
-use Rattle.std.proofs.Common.{◌≡◌, ℕ, suc, ◌+◌, ◌-◌, ◌^◌, ◌<◌, ◌≤◌, min, Bool, true, false, ◌&&◌, ◌||◌, leb, List, [], ◌∷◌, ◌++◌, map, length, sym, refl, ap, ◌∙◌, subst, ap₂, arith, length-append}
+use Rattle.std.proofs.Common.{◌≡◌, ℕ, suc, ◌+◌, ◌-◌, ◌^◌, ◌<◌, ◌≤◌, min, Bool, true, false, ◌&&◌, ◌||◌, List, [], ◌∷◌, ◌++◌, map, length, sym, refl, ap, ◌∙◌, subst, ap₂, arith, length-append}
 use Rattle.std.specs.List.{range_with_len}
 use Rattle.std.proofs.lemmas.List.{length-map}
 use Rattle.std.proofs.lemmas.Bool.{or_left}
@@ -9,7 +9,6 @@ use Rattle.order.specs.declared.board.TheConstants.{CARDS}
 use Rattle.order.specs.Lists.{filter, has, place}
 use Rattle.order.specs.Board.{Board, leads, keeps}
 use Rattle.order.specs.Reordering.{with_link, firm}
-use Rattle.order.proofs.Filters.{has_filter}
 use Rattle.order.proofs.Parts.{with_part}
 use Rattle.order.proofs.Refilled.{either, refilled}
 use Rattle.order.proofs.Climbs.{Fine, fine_parts}
@@ -22,7 +21,7 @@ use Rattle.memory.specs.PlaceSetLaws.{Summed, CellsAlone}
 use Rattle.memory.proofs.Alone.{cells_alone}
 use Rattle.memory.proofs.Footprints.{kept, less, after}
 use Rattle.row.specs.declared.layout.TheConstants.{SEATS_MOST, COUNT, ENDING, FRESH, FREE, IDS, CHAIN, SLOTS, SEATS, TAKEN}
-use Rattle.row.specs.Meaning.{count, ending, fresh, free, listed, amount, bit_set, in_use, taken, rank, row_of, used, Standing, IsRow}
+use Rattle.row.specs.Meaning.{count, ending, listed, amount, bit_set, in_use, taken, rank, row_of, used, Standing, IsRow}
 use Rattle.row.proofs.Listing.{amount_more}
 use Rattle.row.proofs.Along.{amount_before}
 use Rattle.row.proofs.Seatings.{one_seat}
@@ -36,7 +35,7 @@ use Rattle.search.specs.Settle.{Gathered, gathers, both_first, dealt, forgotten,
 use Rattle.search.specs.SettleLaws.{Unmarked, Settled, Settles}
 use Rattle.search.proofs.Listed.{Lists, lists_filter, counting_has}
 use Rattle.search.proofs.InThree.{before, inner, behind, in_inner, inner_once, before_out, behind_out, part_end, in_three}
-use Rattle.search.proofs.Mapped.{map_has, map_filter, filter_same, filter_both, filter_fewer}
+use Rattle.search.proofs.Mapped.{map_filter, filter_same, filter_both, filter_fewer}
 use Rattle.search.proofs.Gathering.{Marking, marking_kept, wrote, wrote_append, writes_wrote, wrote_reads, gathers_list}
 use Rattle.search.proofs.Dealing.{put, put_slots, put_places, writes_put, deals}
 use Rattle.search.proofs.Exchanged.{exchanged, exchanged_same}

@@ -1,7 +1,7 @@
 -- A search goes through the chain of one slot: it comes to all that the slot is linked to, or it meets the other search.
 use Rattle.std.proofs.Common.{◌≡◌, ℕ, zero, suc, ◌+◌, ◌<◌, ◌≤◌, Bool, true, false, cond, eqb, List, [], ◌∷◌, length, Some, None, Continue, Break, ControlFlow, sym, refl, ap, ◌∙◌, inl, inr, ⊎_elim, arith}
 use Rattle.std.proofs.lemmas.Bool.Decides.{nat_tests}
-use Rattle.std.proofs.lemmas.Bool.{cases_Bool, both_ways, and_parts, or_cases, or_left, or_right, eq-eqb, eqb-true}
+use Rattle.std.proofs.lemmas.Bool.{cases_Bool, both_ways, and_parts, or_cases, or_right, eqb-true}
 use Rattle.order.specs.Lists.{any, has}
 use Rattle.order.specs.Board.{◌⟶◌}
 use Rattle.memory.specs.Columns.{cell}
