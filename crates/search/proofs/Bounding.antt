@@ -17,7 +17,7 @@ use Rattle.search.proofs.Between.{Setting, part_tells}
 use Rattle.search.proofs.Sounding.{Sound}
 use Rattle.search.proofs.Entering.{each_side}
 use Rattle.search.proofs.Parting.{Closed, parted}
-use Rattle.search.proofs.Cursors.{passed, ahead_of, some_left}
+use Rattle.search.proofs.Cursors.{passed, ahead_of, left_over}
 use Rattle.search.proofs.Advancing.{Placed, Fronted, placed_same, Tells, goes}
 
 module _ (m : List ℕ) (a b : ℕ) (S : Setting m a b) where
@@ -42,7 +42,7 @@ module _ (m : List ℕ) (a b : ℕ) (S : Setting m a b) where
   none_left : (n : List ℕ) (s : Sound m a b n) (d : Side) (o : Option ℕ) (f : ℕ) → Placed m a b n d o f → ahead_of d o ≡ 0 → o ≡ None
   none_left n s d None f h z = refl
   none_left n s d (Some p) f h z =
-      absurd (omega (arith, some_left d p (part_tells m a b S p (s.within d p (h.there p refl)).1).2))
+      absurd (omega (arith, left_over d p (part_tells m a b S p (s.within d p (h.there p refl)).1).2))
 
   idle_none : (o : Option ℕ) → given o true (λ p. false) ≡ true → o ≡ None
   idle_none None h = refl
@@ -59,10 +59,6 @@ module _ (m : List ℕ) (a b : ℕ) (S : Setting m a b) where
   two_sides : (d e f : Side) → e ≡ other d → f ≡ d → f ≡ other e
   two_sides Fore e f p q = q ∙ ap other (sym p)
   two_sides Hind e f p q = q ∙ ap other (sym p)
-
-  fewer_turns : (f k l : ℕ) → 2 * l ≤ suc (suc f) → (k ≡ 0) ⊎ (k < l) → 2 * k ≤ f
-  fewer_turns f k l h (inl z) = omega arith
-  fewer_turns f k l h (inr z) = omega arith
 
   abbrev turns : Front → ℕ
   turns c = ahead_of c.side c.cursor
@@ -83,4 +79,4 @@ module _ (m : List ℕ) (a b : ℕ) (S : Setting m a b) where
       (λ _. by_answer x.memory c x.advance rest G.told (λ k t.
       hunts f x.memory e k G.sound (two_sides c.side e.side k.side o t.0)
       (placed_same m a b n x.memory e.side e.cursor e.fuel (rw o G.same_other) he) t.1
-      (omega arith) (fewer_turns f (turns k) (turns c) lc t.2)))
+      (omega arith) (let u = t.2 in omega arith)))

@@ -1,5 +1,5 @@
 -- Fuel: how many links a key has, and what all keys that are left have in all.
-use Rattle.std.proofs.Common.{◌≡◌, ℕ, zero, suc, ◌+◌, ◌<◌, ◌≤◌, Bool, true, false, cond, eqb, ltb, List, [], ◌∷◌, length, sym, refl, ap, ◌∙◌, inl, inr, arith}
+use Rattle.std.proofs.Common.{◌≡◌, ℕ, zero, suc, ◌+◌, ◌<◌, ◌≤◌, Bool, true, false, cond, eqb, ltb, List, [], ◌∷◌, length, sym, refl, ap, ◌∙◌, inl, inr, ⊎_elim, arith}
 use Rattle.order.specs.declared.board.Link.{Link}
 use Rattle.order.specs.Lists.{filter}
 use Rattle.std.proofs.lemmas.Bool.{cases_Bool, cases_eq}
@@ -13,9 +13,7 @@ entries g k (l ∷ ls) = entries g k ls + cond (eqb (g l) k) 1 0
 pub entries_are : (g : Link → ℕ) (k : ℕ) (ls : List Link) → length (filter (λ l. eqb (g l) k) ls) ≡ entries g k ls
 unfolding entries filter
 entries_are g k [] = refl
-entries_are g k (l ∷ ls) =
-    let ih = entries_are g k ls in
-    elim (cases_Bool (eqb (g l) k)) [ inl e ↦ rw e (omega arith) | inr e ↦ rw e (omega arith) ]
+entries_are g k (l ∷ ls) = let ih = entries_are g k ls in grind arith
 
 -- what the keys below n that aren't passed weigh
 unfoldable pub weight : (ℕ → ℕ) → (ℕ → Bool) → ℕ → ℕ
@@ -25,27 +23,18 @@ weight v X (suc n) = weight v X n + cond (X n) 0 (v n)
 pub weight_less : (v : ℕ → ℕ) (X Y : ℕ → Bool) (n : ℕ) → ((k : ℕ) → k < n → X k ≡ true → Y k ≡ true) → weight v Y n ≤ weight v X n
 unfolding weight
 weight_less v X Y zero h = omega arith
-weight_less v X Y (suc n) h =
-    let ih = weight_less v X Y n (λ k l. h k (omega arith)) in
-    let t = h n (omega arith) in
-    elim (cases_Bool (X n)) [ inl x ↦ rw (x, t x) (omega arith) | inr x ↦ elim (cases_Bool (Y n)) [ inl y ↦ rw (x, y) (omega arith) | inr y ↦ rw (x, y) (omega arith) ] ]
+weight_less v X Y (suc n) h = let ih = weight_less v X Y n (λ k l. h k (omega arith)) in let t = h n (omega arith) in grind arith
 
 -- one more is passed
 pub weight_passed : (v : ℕ → ℕ) (X Y : ℕ → Bool) (n k : ℕ) → ((j : ℕ) → j < n → X j ≡ true → Y j ≡ true) → k < n → X k ≡ false → Y k ≡ true
     → weight v Y n + v k ≤ weight v X n
 unfolding weight
 weight_passed v X Y zero k h l x y = absurd (omega arith)
-weight_passed v X Y (suc n) k h l x y = elim (cases_eq k n) [
-  | inl q ↦
-      let w = weight_less v X Y n (λ j i. h j (omega arith)) in
-      let a = sym (ap X q) ∙ x in
-      let b = sym (ap Y q) ∙ y in
-      rw (a, b, q) (omega arith)
-  | inr q ↦
-      let ih = weight_passed v X Y n k (λ j i. h j (omega arith)) (omega arith) x y in
-      let t = h n (omega arith) in
-      elim (cases_Bool (X n)) [ inl z ↦ rw (z, t z) (omega arith) | inr z ↦ elim (cases_Bool (Y n)) [ inl u ↦ rw (z, u) (omega arith) | inr u ↦ rw (z, u) (omega arith) ] ]
-]
+weight_passed v X Y (suc n) k h l x y =
+    let w = weight_less v X Y n (λ j i. h j (omega arith)) in
+    let ih = weight_passed v X Y n k (λ j i. h j (omega arith)) in
+    let t = h n (omega arith) in
+    ⊎_elim (λ (q : k ≡ n). grind arith) (λ q. grind arith) (cases_eq k n)
 
 -- what a key costs: its links, and the end of its chain
 abbrev pub cost : (Link → ℕ) → List Link → ℕ → ℕ
@@ -55,10 +44,7 @@ cost g ls k = entries g k ls + 1
 one_more : (u v : ℕ → ℕ) (X : ℕ → Bool) (a n : ℕ) → ((k : ℕ) → u k ≡ v k + cond (eqb a k) 1 0) → weight u X n ≤ weight v X n + cond (ltb a n) 1 0
 unfolding weight
 one_more u v X a zero h = omega arith
-one_more u v X a (suc n) h = let ih = one_more u v X a n h in let e = h n in elim (cases_Bool (X n)) [
-  | inl x ↦ rw x (grind (arith, nat_tests))
-  | inr x ↦ rw x (grind (arith, nat_tests))
-]
+one_more u v X a (suc n) h = let ih = one_more u v X a n h in let e = h n in grind (arith, nat_tests)
 
 ends_only : (g : Link → ℕ) (X : ℕ → Bool) (n : ℕ) → weight (cost g []) X n ≤ n
 unfolding weight entries

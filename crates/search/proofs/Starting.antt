@@ -26,7 +26,7 @@ use Rattle.search.proofs.Potential.{weight_all}
 use Rattle.search.proofs.Between.{origin, comes_self, Setting, used_tells, seat_below, part_from}
 use Rattle.search.proofs.Reaching.{near_end, few_edges}
 use Rattle.search.proofs.Sounding.{Sound, marked_same, summed_same}
-use Rattle.search.proofs.Cursors.{passed, not_passed, few_left}
+use Rattle.search.proofs.Cursors.{passed, not_passed, left_over}
 use Rattle.search.proofs.Advancing.{Placed}
 use Rattle.search.proofs.Bounding.{hunts}
 
@@ -72,13 +72,9 @@ module _ (m : List ℕ) (a b : ℕ) (S : Setting m a b) where
   is_origin : (d : Side) (q : ℕ) → marked n (marks_of d) q ≡ true → q ≡ cell m SEATS (origin a b d)
   is_origin d q h = eqb-true q (cell m SEATS (origin a b d)) (sym (marks_are d q) ∙ h)
 
-  origin_used : (d : Side) → used m (origin a b d) ≡ true
-  origin_used Fore = S.b_used
-  origin_used Hind = S.a_used
-
-  origin_part : (d : Side) → (pb ≤ cell m SEATS (origin a b d)) × (cell m SEATS (origin a b d) ≤ pa)
-  origin_part Fore = (omega arith, omega (arith, S.before))
-  origin_part Hind = (omega (arith, S.before), omega arith)
+  at_origin : (d : Side) → (used m (origin a b d) ≡ true) × (pb ≤ cell m SEATS (origin a b d)) × (cell m SEATS (origin a b d) ≤ pa)
+  at_origin Fore = (S.b_used, omega arith, omega (arith, S.before))
+  at_origin Hind = (S.a_used, omega (arith, S.before), omega arith)
 
   alone : (d : Side) (q : ℕ) → q ≡ cell m SEATS (origin a b d) → q ≡ cell m SEATS (origin a b (other d)) → ⊥
   alone Fore q h k = omega (arith, S.before)
@@ -89,11 +85,11 @@ module _ (m : List ℕ) (a b : ℕ) (S : Setting m a b) where
     frame = writes_started m (a ⟶ b);
     summed = summed_both;
     within = λ d q h.
-        let o = origin_part d in
-        rw (is_origin d q h) ((used_tells m a b S (origin a b d) (origin_used d)).1, part_from m a b S (cell m SEATS (origin a b d)) o.0 o.1);
+        let o = at_origin d in
+        rw (is_origin d q h) ((used_tells m a b S (origin a b d) o.0).1, part_from m a b S (cell m SEATS (origin a b d)) o.1 o.2);
     start = λ d. marks_are d (cell m SEATS (origin a b d)) ∙ eq-eqb (cell m SEATS (origin a b d)) (cell m SEATS (origin a b d)) refl;
-    led = λ d q h. rw (is_origin d q h, (used_tells m a b S (origin a b d) (origin_used d)).2) (comes_self m a b S d (origin a b d));
-    trail = λ d s u h. inl (sym (used_tells m a b S s u).2 ∙ ap (cell m SLOTS) (is_origin d (cell m SEATS s) h) ∙ (used_tells m a b S (origin a b d) (origin_used d)).2);
+    led = λ d q h. rw (is_origin d q h, (used_tells m a b S (origin a b d) (at_origin d).0).2) (comes_self m a b S d (origin a b d));
+    trail = λ d s u h. inl (sym (used_tells m a b S s u).2 ∙ ap (cell m SLOTS) (is_origin d (cell m SEATS s) h) ∙ (used_tells m a b S (origin a b d) (at_origin d).0).2);
     alone = λ d q h k. alone d q (is_origin d q h) (is_origin (other d) q k);
   }
 
@@ -111,8 +107,8 @@ pub meets : (m : List ℕ) (a b : ℕ) → Ready m → used m a ≡ true → use
 unfolding meeting
 meets m a b R ua ub l =
     let S : Setting m a b = record { ready = R; a_used = ua; b_used = ub; before = l } in
-    let x = few_left Fore (cell m SEATS b) (below_b m a b S) in
-    let y = few_left Hind (cell m SEATS a) (below_a m a b S) in
+    let x = left_over Fore (cell m SEATS b) (below_b m a b S) in
+    let y = left_over Hind (cell m SEATS a) (below_a m a b S) in
     hunts m a b S TURNS (started m (a ⟶ b)) (front Fore (cell m SEATS b)) (front Hind (cell m SEATS a)) (sound m a b S) refl
     (placed m a b S Fore) (placed m a b S Hind) (omega arith) (omega arith)
 
