@@ -1,9 +1,10 @@
 -- The two searches in turn, to their end.
-use Rattle.std.proofs.Common.{◌≡◌, ℕ, zero, suc, ◌*◌, ◌<◌, ◌≤◌, true, false, ◌&&◌, ◌⊎◌, List, Some, None, Option, Continue, Break, ControlFlow, sym, refl, ap, ◌∙◌, inl, inr, arith}
+use Rattle.std.proofs.Common.{◌≡◌, ℕ, zero, suc, ◌+◌, ◌-◌, ◌*◌, ◌<◌, ◌≤◌, true, false, cond, ◌&&◌, ◌⊎◌, List, Some, None, Option, Continue, Break, ControlFlow, sym, refl, ap, ◌∙◌, inl, inr, arith}
 use Rattle.std.proofs.lemmas.Bool.{and_parts, both_ways, cond_both}
 use Rattle.order.specs.declared.board.Link.{Link}
 use Rattle.order.specs.Board.{◌⟶◌}
 use Rattle.memory.specs.Options.{given}
+use Rattle.memory.proofs.Fuel.{fuel_step, fuel_end}
 use Rattle.memory.specs.PlaceSets.{marked}
 use Rattle.search.specs.declared.side.Side.{Side}
 use Rattle.search.specs.declared.side.Side.TheVariants.{Fore, Hind}
@@ -80,3 +81,17 @@ module _ (m : List ℕ) (a b : ℕ) (S : Setting m a b) where
       hunts f x.memory e k G.sound (two_sides c.side e.side k.side o t.0)
       (placed_same m a b n x.memory e.side e.cursor e.fuel (rw o G.same_other) he) t.1
       (omega arith) (let u = t.2 in omega arith)))
+
+-- the steps of the loop
+module _ (N i : ℕ) (m : List ℕ) (w : Part) (c d : Front) where
+  pub hunted_at : i < N → hunted (N - i) m w c d
+      ≡ cond (idle c && idle d) (met_with None m)
+      (hunt_on (gone_on m w c).advance (gone_on m w c).memory (λ e. hunted (N - (i + 1)) (gone_on m w c).memory w d e))
+  unfolding hunted
+  hunted_at h = fuel_step (λ f. hunted f m w c d) N i h
+
+  pub hunted_end : N ≤ i → hunted (N - i) m w c d ≡ met_with None m
+  unfolding hunted
+  hunted_end h = fuel_end (λ f. hunted f m w c d) N i h
+
+pub ruleset hunting = (hunted_at, hunted_end)

@@ -1,5 +1,5 @@
 -- The slots at the marked seats are written to CHOSEN, one after another.
-use Rattle.std.proofs.Common.{◌≡◌, ℕ, zero, suc, ◌+◌, ◌^◌, ◌<◌, ◌≤◌, Bool, true, List, [], ◌∷◌, ◌++◌, map, length, Option, sym, refl, ap, ◌∙◌, ap₂, add-zero, arith}
+use Rattle.std.proofs.Common.{◌≡◌, ℕ, zero, suc, ◌+◌, ◌-◌, ◌^◌, ◌<◌, ◌≤◌, Bool, true, List, [], ◌∷◌, ◌++◌, map, length, Option, sym, refl, ap, ◌∙◌, ap₂, add-zero, arith}
 use Rattle.order.specs.declared.board.TheConstants.{CARDS}
 use Rattle.order.specs.Lists.{has}
 use Rattle.order.proofs.Members.{has_head, has_tail}
@@ -12,11 +12,15 @@ use Rattle.memory.proofs.Cells.{length_written, cell_same, cell_other, cell_apar
 use Rattle.search.specs.declared.layout.TheConstants.{CHOSEN}
 use Rattle.memory.specs.PlaceSets.{marked, next_up, first_mark}
 use Rattle.memory.specs.PlaceSetLaws.{Summed, CellsAlone}
-use Rattle.search.specs.Settle.{gathered, gathers}
+use Rattle.search.specs.Settle.{Gathered, gathered, gathers, both_next, seated, dealt}
 use Rattle.memory.proofs.Alone.{cells_alone}
 use Rattle.memory.proofs.Upward.{going_up, first_of_all}
 use Rattle.search.proofs.Listed.{From, Lists, from_after, from_least, from_list}
-use Rattle.search.proofs.SettleSteps.{all}
+use Rattle.memory.proofs.Fuel.{fuel_step, fuel_end}
+use Rattle.memory.specs.Options.{given}
+
+abbrev pub all : List ℕ → ℕ → Gathered
+all m i = record { memory = m; end = i }
 
 -- the column c marks what passes T
 pub record Marking (m : List ℕ) (c : Column) (T : ℕ → Bool) : Type 0 where
@@ -96,3 +100,25 @@ module _ (c : Column) (ap_c : apart CHOSEN c ≡ true) (T : ℕ → Bool) (slot 
       gathers m c i ≡ all (wrote m i (map slot qs)) (i + length qs)
   unfolding gathers
   gathers_list m qs i k s l h = gathered_list CARDS m 0 qs (first_mark m c) i k s l (from_first m c T k) h
+
+-- the steps of the loops that gather the slots and give them their seats
+pub gathered_at : (N j : ℕ) (m : List ℕ) (c : Column) (o : Option ℕ) (i : ℕ) → j < N →
+    gathered (N - j) m c o i ≡ given o (all m i)
+    (λ p. gathered (N - (j + 1)) (written m CHOSEN i (cell m SLOTS p)) c (next_up (written m CHOSEN i (cell m SLOTS p)) c p) (i + 1))
+unfolding gathered
+gathered_at N j m c o i h = fuel_step (λ f. gathered f m c o i) N j h
+
+pub gathered_end : (N j : ℕ) (m : List ℕ) (c : Column) (o : Option ℕ) (i : ℕ) → N ≤ j → gathered (N - j) m c o i ≡ all m i
+unfolding gathered
+gathered_end N j m c o i h = fuel_end (λ f. gathered f m c o i) N j h
+
+pub dealt_at : (N j : ℕ) (m : List ℕ) (o : Option ℕ) (i : ℕ) → j < N →
+    dealt (N - j) m o i ≡ given o m (λ p. dealt (N - (j + 1)) (seated m p i) (both_next (seated m p i) p) (i + 1))
+unfolding dealt
+dealt_at N j m o i h = fuel_step (λ f. dealt f m o i) N j h
+
+pub dealt_end : (N j : ℕ) (m : List ℕ) (o : Option ℕ) (i : ℕ) → N ≤ j → dealt (N - j) m o i ≡ m
+unfolding dealt
+dealt_end N j m o i h = fuel_end (λ f. dealt f m o i) N j h
+
+pub ruleset steps = (gathered_at, gathered_end, dealt_at, dealt_end)

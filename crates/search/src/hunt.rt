@@ -163,7 +163,7 @@ impl Front {
 }
 
 // Two searches in turn, until they meet or neither has anything to go on from. The part stands beside them, since it's one for both.
-#[tactic(auto, using(crate::proofs::Hunting::hunts, memory::proofs::Footprints::footprints))]
+#[tactic(auto, using(crate::proofs::Bounding::hunting, memory::proofs::Footprints::footprints))]
 fn hunt(memory: &mut Memory, part: Part, mut near: Front, mut far: Front) -> Option<Link>
     ensures is { result ≡ (hunted TURNS memory.old part near far).answer }
     ensures after { memory.new ≡ (hunted TURNS memory.old part near far).memory }
