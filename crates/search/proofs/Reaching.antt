@@ -1,5 +1,5 @@
 -- What a search meets in the chain of a slot: just the slots that it is linked to, one for each link.
-use Rattle.std.proofs.Common.{◌≡◌, ℕ, zero, suc, ◌+◌, ◌<◌, ◌≤◌, Bool, ◌&&◌, ◌||◌, eqb, List, [], ◌∷◌, map, reverse, length, Some, None, Option, sym, refl, ap, ◌∙◌, inl, inr, arith}
+use Rattle.std.proofs.Common.{◌≡◌, ℕ, zero, suc, ◌+◌, ◌<◌, ◌≤◌, Bool, ◌&&◌, ◌||◌, eqb, List, [], ◌∷◌, map, reverse, length, sym, refl, ap, ◌∙◌, inl, inr, arith}
 use mathlib.Core.List.{reverse_aux}
 use Rattle.std.proofs.lemmas.Bool.{cases_Bool}
 use Rattle.std.proofs.lemmas.Bool.Decides.{nat_tests}
@@ -8,7 +8,7 @@ use Rattle.order.specs.declared.board.TheConstants.{CARDS}
 use Rattle.order.specs.declared.board.Link.{Link}
 use Rattle.order.specs.Lists.{any, has, filter}
 use Rattle.memory.specs.Columns.{cell}
-use Rattle.memory.specs.Options.{given}
+use Rattle.memory.proofs.Options.{given_holds}
 use Rattle.chains.specs.declared.cells.Pointer.{Pointer}
 use Rattle.chains.specs.declared.chain_table.ChainTable.{ChainTable}
 use Rattle.chains.specs.Tables.{node, at}
@@ -105,14 +105,11 @@ along m t d s h =
     )
 
 -- how many links there are
-few_given : (o : Option Pointer) (k : Pointer → List Pointer) (f : ℕ) → ((x : Pointer) → length (k x) ≤ f) → length (given o [] (λ x. x ∷ k x)) ≤ suc f
-few_given None k f h = omega arith
-few_given (Some x) k f h = omega (arith, h x)
-
 few_walked : (f : ℕ) (T : ChainTable) (g : ℕ → ℕ) (p : ℕ) → length (walked_by f T g p) ≤ f
 unfolding walked_by
 few_walked zero T g p = omega arith
-few_walked (suc f) T g p = few_given (met_by g p) (λ x. walked_by f T g (node T x.held)) f (λ x. few_walked f T g (node T x.held))
+few_walked (suc f) T g p =
+    given_holds (λ o. Unit) (λ (xs : List Pointer). length xs ≤ suc f) (met_by g p) [] _ tt (omega arith) (λ x u. omega (arith, few_walked f T g (node T x.held)))
 
 pub few_edges : (m : List ℕ) → length (edges m) ≤ ENTRIES
 unfolding edges

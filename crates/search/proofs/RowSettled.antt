@@ -21,7 +21,7 @@ use Rattle.memory.specs.PlaceSetLaws.{Summed, CellsAlone}
 use Rattle.memory.proofs.Alone.{cells_alone}
 use Rattle.memory.proofs.Footprints.{kept, less, after}
 use Rattle.row.specs.declared.layout.TheConstants.{SEATS_MOST, COUNT, ENDING, FRESH, FREE, IDS, CHAIN, SLOTS, SEATS, TAKEN}
-use Rattle.row.specs.Meaning.{count, ending, listed, amount, bit_set, in_use, taken, rank, row_of, used, Standing, IsRow}
+use Rattle.row.specs.Meaning.{ending, listed, amount, bit_set, in_use, taken, rank, row_of, used, Standing, IsRow}
 use Rattle.row.proofs.Listing.{amount_more}
 use Rattle.row.proofs.Along.{amount_before}
 use Rattle.row.proofs.Seatings.{one_seat}
@@ -79,26 +79,12 @@ module _ (m m₁ : List ℕ) (a b : ℕ) (R : Ready m) (ua : used m a ≡ true) 
   abbrev Q : List ℕ
   Q = inner (taken m) lo n
 
-  ends : suc hi ≤ ending m
-  ends = R.is_row.stands.seated.below hi (used_seat m R.is_row a ua).0
-
-  in_Q : (p : ℕ) → has Q p ≡ true → (lo ≤ p) × (p < lo + n) × (taken m p ≡ true)
-  in_Q p h = in_inner (taken m) lo n p h
-
   -- all taken seats
   abbrev seats : List ℕ
   seats = filter (taken m) (range_with_len 0 (ending m))
 
   seats_are : seats ≡ before (taken m) lo n ++ (Q ++ behind (taken m) lo n (ending m))
-  seats_are = in_three (taken m) lo n (ending m) (let e = ends in omega arith)
-
-  length_before : length (before (taken m) lo n) ≡ rank m lo
-  unfolding amount
-  length_before = refl
-
-  length_seats : length seats ≡ count m
-  unfolding amount
-  length_seats = sym R.is_row.stands.seated.counts
+  seats_are = in_three (taken m) lo n (ending m) (let e = R.is_row.stands.seated.below hi (used_seat m R.is_row a ua).0 in omega arith)
 
   rank_behind : rank m lo + length Q ≡ suc (rank m hi)
   unfolding amount
@@ -109,9 +95,10 @@ module _ (m m₁ : List ℕ) (a b : ℕ) (R : Ready m) (ua : used m a ≡ true) 
       part_end (taken m) lo n ∙ ap (λ (x : ℕ). length (filter (taken m) (range_with_len 0 x))) e ∙ w ∙ rw t (omega arith)
 
   few_Q : length Q ≤ CARDS
+  unfolding amount
   few_Q =
       let c = few_cards m R.is_row in
-      let s = sym length_seats ∙ ap length seats_are ∙ length-append (before (taken m) lo n) (Q ++ behind (taken m) lo n (ending m)) in
+      let s = R.is_row.stands.seated.counts ∙ ap length seats_are ∙ length-append (before (taken m) lo n) (Q ++ behind (taken m) lo n (ending m)) in
       let q = length-append Q (behind (taken m) lo n (ending m)) in
       omega arith
 
@@ -134,8 +121,8 @@ module _ (m m₁ : List ℕ) (a b : ℕ) (R : Ready m) (ua : used m a ≡ true) 
 
   rearranged : Rearranges (taken m) slot ps ks
   rearranged =
-      rearranges slot A B Q apart_so (taken m) (λ p h. (in_Q p h).2) (inner_once (taken m) lo n)
-      (λ p q h i e. one_seat R.is_row.stands.seated p q (in_Q p h).2 (in_Q q i).2 e)
+      rearranges slot A B Q apart_so (taken m) (λ p h. (in_inner (taken m) lo n p h).2) (inner_once (taken m) lo n)
+      (λ p q h i e. one_seat R.is_row.stands.seated p q (in_inner (taken m) lo n p h).2 (in_inner (taken m) lo n q i).2 e)
 
   seat_low : (p : ℕ) → has ps p ≡ true → p < SEATS_MOST
   seat_low p h = let e = R.is_row.stands.seated.below p (rearranged.seats_held p h) in omega arith
@@ -174,9 +161,6 @@ module _ (m m₁ : List ℕ) (a b : ℕ) (R : Ready m) (ua : used m a ≡ true) 
   fore_marks : Marking m₁ FORE.column (marks B)
   fore_marks = record { summed = P.fore_summed; marks = P.fore_is }
 
-  slots_same : (p : ℕ) → cell m₁ SLOTS p ≡ slot p
-  slots_same p = P.kept.others SLOTS p refl
-
   abbrev m₂ : List ℕ
   m₂ = wrote m₁ 0 ks
 
@@ -197,11 +181,11 @@ module _ (m m₁ : List ℕ) (a b : ℕ) (R : Ready m) (ua : used m a ≡ true) 
       let kB = map slot qsB in
       let w = wrote m₁ 0 kA in
       let few = few_Q in
-      let g₁ = gathers_list HIND.column refl (marks A) slot m₁ qsA 0 hind_marks slots_same (marked_seats A)
+      let g₁ = gathers_list HIND.column refl (marks A) slot m₁ qsA 0 hind_marks (λ p. P.kept.others SLOTS p refl) (marked_seats A)
       (let l = filter_fewer (λ p. A (slot p)) Q in omega arith) in
       let ww = writes_wrote m₁ 0 kA small_hind in
       let fw = marking_kept (CHOSEN ∷ []) m₁ w FORE.column (marks B) ww refl fore_marks in
-      let g₂ = gathers_list FORE.column refl (marks B) slot w qsB (0 + length qsA) fw (λ p. ww.others SLOTS p refl ∙ slots_same p) (marked_seats B)
+      let g₂ = gathers_list FORE.column refl (marks B) slot w qsB (0 + length qsA) fw (λ p. ww.others SLOTS p refl ∙ P.kept.others SLOTS p refl) (marked_seats B)
       (let l = filter_fewer (λ p. B (slot p)) Q in omega arith) in
       ap (λ (g : Gathered). (gathers g.memory FORE.column g.end).memory) g₁ ∙ ap (λ (g : Gathered). g.memory) g₂
       ∙ sym (wrote_append m₁ 0 (0 + length qsA) kA kB (ap (λ (x : ℕ). 0 + x) (length-map qsA slot))) ∙ ap (wrote m₁ 0) ks_is
@@ -237,7 +221,7 @@ module _ (m m₁ : List ℕ) (a b : ℕ) (R : Ready m) (ua : used m a ≡ true) 
 
   wrote_so : Writes written_columns m m'
   wrote_so =
-      subst (λ (x : List ℕ). Writes written_columns m x) (sym settled_is)
+      rw settled_is
       (after written_columns sets m m₃ (forgotten m₃) refl (writes_forgotten m₃)
       (after written_columns (SLOTS ∷ SEATS ∷ []) m m₂ m₃ refl put_ks
       (after written_columns (CHOSEN ∷ []) m m₁ m₂ refl wrote_ks (less written_columns searched m m₁ refl P.kept))))
@@ -252,7 +236,7 @@ module _ (m m₁ : List ℕ) (a b : ℕ) (R : Ready m) (ua : used m a ≡ true) 
   slots_are : (p : ℕ) → cell m' SLOTS p ≡ exchanged slot ps ks p
   slots_are p =
       cell_put SLOTS p refl ∙ put_slots m₂ ps ks length_m₂ seat_low p
-      ∙ exchanged_same (cell m₂ SLOTS) slot ps ks (λ x. wrote_ks.others SLOTS x refl ∙ slots_same x) p
+      ∙ exchanged_same (cell m₂ SLOTS) slot ps ks (λ x. wrote_ks.others SLOTS x refl ∙ P.kept.others SLOTS x refl) p
 
   seats_same : (s : ℕ) → cell m' SEATS s ≡ exchanged (cell m SEATS) ks ps s
   seats_same s =
@@ -275,23 +259,15 @@ module _ (m m₁ : List ℕ) (a b : ℕ) (R : Ready m) (ua : used m a ≡ true) 
         (standing_again _ _ _ _ ps ks _ _ slot _ (taken m) R.is_row.stands rearranged _ _ slots_are seats_same);
   }
 
-  used_so : (s : ℕ) → used m' s ≡ used m s
-  used_so s =
-      as_before (λ v. in_use (cell m' SLOTS) (cell m' SEATS) (bit_set (v.at TAKEN)) s ≡ used m s)
-      (used_same _ _ _ _ ps ks _ _ slot _ (taken m) R.is_row.stands rearranged _ _ slots_are seats_same s)
-
-  taken_so : (p : ℕ) → taken m' p ≡ taken m p
-  taken_so p = as_before (λ v. bit_set (v.at TAKEN) p ≡ taken m p) refl
-
   row_so : row_of m' ≡ with_part (refilled B A) (row_of m) (rank m lo) (suc (rank m hi))
-  unfolding listed
+  unfolding listed amount
   row_so =
       as_before (λ v. map (cell m' SLOTS) (filter (bit_set (v.at TAKEN)) (range_with_len 0 (min (v.at ENDING 0) SEATS_MOST)))
       ≡ with_part (refilled B A) (row_of m) (rank m lo) (suc (rank m hi)))
       (ap (λ (g : ℕ → ℕ). map g (filter (taken m) (range_with_len 0 (ending m)))) (λ t p. slots_are p t)
       ∙ ap (map (exchanged slot ps ks)) seats_are
       ∙ row_is slot A B Q apart_so (before (taken m) lo n) (behind (taken m) lo n (ending m)) (rank m lo) (suc (rank m hi)) (inner_once (taken m) lo n)
-      (before_out (taken m) lo n) (behind_out (taken m) lo n (ending m)) length_before rank_behind
+      (before_out (taken m) lo n) (behind_out (taken m) lo n (ending m)) refl rank_behind
       ∙ ap (λ (xs : List ℕ). with_part (refilled B A) (map slot xs) (rank m lo) (suc (rank m hi))) (sym seats_are))
 
   -- that is the firm row
@@ -321,8 +297,10 @@ module _ (m m₁ : List ℕ) (a b : ℕ) (R : Ready m) (ua : used m a ≡ true) 
         (forgets_all m₃ (summed_m₃ FORE.column refl refl P.fore_summed) (summed_m₃ HIND.column refl refl P.hind_summed));
     wrote = wrote_so;
     same_edges = edges_kept written_columns refl m m' wrote_so;
-    same_used = used_so;
-    same_taken = taken_so;
+    same_used = λ s.
+      as_before (λ v. in_use (cell m' SLOTS) (cell m' SEATS) (bit_set (v.at TAKEN)) s ≡ used m s)
+      (used_same _ _ _ _ ps ks _ _ slot _ (taken m) R.is_row.stands rearranged _ _ slots_are seats_same s);
+    same_taken = λ p. as_before (λ v. bit_set (v.at TAKEN) p ≡ taken m p) refl;
     is_firm = ap (λ (x : List ℕ). firm r a b x) firm_so ∙ firm_is r f a b open_so back_row;
     keeps_links = ap (λ (x : List ℕ). keeps x (with_link r a b)) firm_so ∙ firm_keeps r f a b open_so back_row;
   }
