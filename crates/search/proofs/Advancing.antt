@@ -1,20 +1,7 @@
 -- One of the two searches goes on from one card.
 use Rattle.std.proofs.Common.{◌≡◌, ℕ, ◌+◌, ◌<◌, ◌≤◌, true, ◌⊎◌, List, suc, length, Some, None, Option, Continue, Break, ControlFlow, sym, refl, ap, ◌∙◌, inl, inr, arith}
-use Rattle.order.specs.declared.board.TheConstants.{CARDS}
-use Rattle.order.specs.declared.board.Link.{Link}
-use Rattle.order.specs.Board.{◌⟶◌}
-use Rattle.memory.specs.declared.place_set.TheConstants.{PLACES}
-use Rattle.memory.specs.Columns.{cell}
-use Rattle.memory.specs.PlaceSets.{marked}
-use Rattle.row.specs.declared.layout.TheConstants.{SLOTS, SEATS}
-use Rattle.row.specs.Meaning.{used}
-use Rattle.chains.specs.declared.cells.Pointer.{Pointer}
-use Rattle.links.specs.Table.{edges}
-use Rattle.search.specs.declared.side.Side.{Side}
-use Rattle.search.specs.declared.hunt.Front.{Front}
-use Rattle.search.specs.Sides.{marks_of, other, ahead}
-use Rattle.search.specs.Hunt.{Spreading, spreading, Going, advanced, moved, gone_on, part_of}
-use Rattle.search.specs.Meaning.{Trailed}
+use Rattle.search.proofs.Common.{CARDS, Link, ◌⟶◌, PLACES, cell, marked, SLOTS, SEATS, used, Pointer, edges, Side, Front, marks_of, other, ahead}
+use Rattle.search.proofs.Common.{Spreading, spreading, Going, advanced, moved, gone_on, part_of, Trailed}
 use Rattle.search.proofs.Potential.{weight, weight_passed, cost}
 use Rattle.search.proofs.Between.{Setting, used_tells, taken_tells}
 use Rattle.search.proofs.Reaching.{near_end, Along, along}

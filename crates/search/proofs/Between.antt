@@ -2,19 +2,11 @@
 use Rattle.std.proofs.Common.{◌≡◌, ℕ, ◌<◌, ◌≤◌, Bool, true, List, sym, ◌∙◌, arith}
 use Rattle.std.proofs.lemmas.Bool.{ltb-true, lt-ltb}
 use Rattle.std.proofs.lemmas.Bool.Decides.{nat_tests}
-use Rattle.order.specs.declared.board.TheConstants.{CARDS}
-use Rattle.order.specs.Lists.{place}
-use Rattle.order.specs.Board.{Board, leads, linked}
+use Rattle.search.proofs.Common.{CARDS, place, Board, leads, linked, PLACES, cell, SLOTS, SEATS, row_of, used, taken, Side, Fore, Hind, slot_board, part}
+use Rattle.search.proofs.Common.{Ready}
 use Rattle.order.proofs.Climbs.{Fine, fine_parts, link_ends, link_before}
 use Rattle.order.proofs.Leading.{leads_just}
-use Rattle.memory.specs.declared.place_set.TheConstants.{PLACES}
-use Rattle.memory.specs.Columns.{cell}
-use Rattle.row.specs.declared.layout.TheConstants.{SLOTS, SEATS}
-use Rattle.row.specs.Meaning.{row_of, used, taken}
 use Rattle.row.proofs.Rows.{Seated, seated, room, sitting, at_seat, has_is, order_is}
-use Rattle.search.specs.declared.side.Side.{Side}
-use Rattle.search.specs.declared.side.Side.TheVariants.{Fore, Hind}
-use Rattle.search.specs.Meaning.{slot_board, part, Ready}
 
 -- where a search begins
 abbrev pub origin : ℕ → ℕ → Side → ℕ

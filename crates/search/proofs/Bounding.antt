@@ -1,18 +1,9 @@
 -- The two searches in turn, to their end.
 use Rattle.std.proofs.Common.{◌≡◌, ℕ, zero, suc, ◌+◌, ◌-◌, ◌*◌, ◌<◌, ◌≤◌, true, false, cond, ◌&&◌, List, Some, None, Option, Continue, Break, ControlFlow, sym, refl, ap, ◌∙◌, arith}
 use Rattle.std.proofs.lemmas.Bool.{and_parts, both_ways, cond_both}
-use Rattle.order.specs.declared.board.Link.{Link}
-use Rattle.order.specs.Board.{◌⟶◌}
-use Rattle.memory.specs.Options.{given}
+use Rattle.search.proofs.Common.{Link, ◌⟶◌, given, marked, Side, Fore, Hind, Part, Front, marks_of, other, gone_on, idle, Met, met_with, hunt_on, hunted}
+use Rattle.search.proofs.Common.{part_of, Parted}
 use Rattle.memory.proofs.Fuel.{fuel_step, fuel_end}
-use Rattle.memory.specs.PlaceSets.{marked}
-use Rattle.search.specs.declared.side.Side.{Side}
-use Rattle.search.specs.declared.side.Side.TheVariants.{Fore, Hind}
-use Rattle.search.specs.declared.hunt.Part.{Part}
-use Rattle.search.specs.declared.hunt.Front.{Front}
-use Rattle.search.specs.Sides.{marks_of, other}
-use Rattle.search.specs.Hunt.{gone_on, idle, Met, met_with, hunt_on, hunted, part_of}
-use Rattle.search.specs.Meaning.{Parted}
 use Rattle.search.specs.HuntLaws.{Found}
 use Rattle.search.proofs.Between.{Setting, part_tells}
 use Rattle.search.proofs.Sounding.{Sound}

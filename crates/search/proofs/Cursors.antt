@@ -2,12 +2,7 @@
 use Rattle.std.proofs.Common.{◌≡◌, ℕ, ◌+◌, ◌-◌, ◌<◌, ◌≤◌, Bool, true, false, ltb, ◌⊎◌, List, Some, None, Option, refl, arith}
 use Rattle.std.proofs.lemmas.Bool.{ltb-true, lt-ltb, le-ltb, both_ways}
 use Rattle.std.proofs.lemmas.Bool.Decides.{nat_tests}
-use Rattle.search.specs.declared.side.Side.{Side}
-use Rattle.search.specs.declared.side.Side.TheVariants.{Fore, Hind}
-use Rattle.memory.specs.declared.place_set.TheConstants.{PLACES}
-use Rattle.memory.specs.PlaceSets.{marked}
-use Rattle.memory.specs.PlaceSetLaws.{Summed}
-use Rattle.search.specs.Sides.{marks_of, ahead}
+use Rattle.search.proofs.Common.{Side, Fore, Hind, PLACES, marked, Summed, marks_of, ahead}
 use Rattle.memory.proofs.Nearest.{Nearest}
 use Rattle.memory.proofs.Upward.{next_up_nearest}
 use Rattle.memory.proofs.Downward.{next_down_nearest}

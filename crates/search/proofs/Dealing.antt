@@ -1,19 +1,13 @@
 -- The seats of both sets are given to the slots of CHOSEN, one after another.
 use Rattle.std.proofs.Common.{◌≡◌, ℕ, zero, suc, ◌+◌, ◌^◌, ◌<◌, ◌≤◌, Bool, true, ◌||◌, List, [], ◌∷◌, length, Option, refl, ◌∙◌, arith}
 use Rattle.std.proofs.lemmas.Bool.Decides.{nat_tests}
-use Rattle.order.specs.declared.board.TheConstants.{CARDS}
-use Rattle.memory.specs.declared.column.Column.{Column}
-use Rattle.order.specs.Lists.{has}
-use Rattle.memory.specs.Columns.{cell, written, apart}
-use Rattle.row.specs.declared.layout.TheConstants.{SLOTS, SEATS, SEATS_MOST}
-use Rattle.memory.specs.Footprints.{Writes}
+use Rattle.search.proofs.Common.{CARDS, Column, has, cell, written, apart, SLOTS, SEATS, SEATS_MOST, Writes, FORE, HIND, CHOSEN, both_first, both_next}
+use Rattle.search.proofs.Common.{seated, dealt}
 use Rattle.row.specs.Moves.{put_at}
 use Rattle.memory.proofs.Footprints.{same, on}
 use Rattle.row.proofs.Framing.{put_at_writes}
 use Rattle.memory.proofs.Cells.{length_written, cell_same, cell_other, cell_apart}
 use Rattle.order.proofs.Members.{has_head, has_tail}
-use Rattle.search.specs.declared.layout.TheConstants.{FORE, HIND, CHOSEN}
-use Rattle.search.specs.Settle.{both_first, both_next, seated, dealt}
 use Rattle.search.proofs.Listed.{From, Lists, from_sooner, from_list}
 use Rattle.search.proofs.Gathering.{Marking, marking_same, from_next, from_first, Reads}
 use Rattle.search.proofs.Exchanged.{with_at, exchanged, exchanged_same}

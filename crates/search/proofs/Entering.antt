@@ -2,25 +2,12 @@
 use Rattle.std.proofs.Common.{◌≡◌, ℕ, ◌<◌, Bool, true, false, cond, not, ◌&&◌, ◌||◌, eqb, ◌⊎◌, List, [], ◌∷◌, refl, sym, ap, ◌∙◌, inl, inr, ⊎_elim, arith}
 use Rattle.std.proofs.lemmas.Bool.{both_ways, cases_eq, cond_both}
 use Rattle.std.proofs.lemmas.Bool.Decides.{nat_tests}
-use Rattle.order.specs.Board.{◌⟶◌}
-use Rattle.memory.specs.declared.place_set.TheConstants.{PLACES}
-use Rattle.memory.specs.Columns.{cell, written, apart}
-use Rattle.memory.specs.Footprints.{Writes, clear}
-use Rattle.memory.specs.PlaceSets.{marked, fresh, added}
-use Rattle.memory.specs.PlaceSetLaws.{Summed}
+use Rattle.search.proofs.Common.{◌⟶◌, PLACES, cell, written, apart, Writes, clear, marked, fresh, added, Summed, SLOTS, SEATS, used, Side, Fore, Hind, VIA}
+use Rattle.search.proofs.Common.{searched, marks_of, other, sees, entered, part_of, slot_board, slot_on, part}
 use Rattle.memory.proofs.Cells.{length_written, cell_same, cell_other, cell_apart}
 use Rattle.memory.proofs.Footprints.{put}
 use Rattle.memory.proofs.Adding.{adding}
 use Rattle.memory.proofs.Alone.{writes_added}
-use Rattle.row.specs.declared.layout.TheConstants.{SLOTS, SEATS}
-use Rattle.row.specs.Meaning.{used}
-use Rattle.search.specs.declared.side.Side.{Side}
-use Rattle.search.specs.declared.side.Side.TheVariants.{Fore, Hind}
-use Rattle.search.specs.declared.layout.TheConstants.{VIA}
-use Rattle.search.specs.Columns.{searched}
-use Rattle.search.specs.Sides.{marks_of, other}
-use Rattle.search.specs.Hunt.{sees, entered, part_of}
-use Rattle.search.specs.Meaning.{slot_board, slot_on, part}
 use Rattle.search.proofs.Touching.{writes_marked}
 use Rattle.search.proofs.Between.{origin, arc, comes, Setting, used_tells, arc_tells, comes_on, part_tells}
 use Rattle.search.proofs.Sounding.{Sound, Grown, marked_same, summed_same}

@@ -1,23 +1,14 @@
 -- The slots at the marked seats are written to CHOSEN, one after another.
 use Rattle.std.proofs.Common.{◌≡◌, ℕ, zero, suc, ◌+◌, ◌-◌, ◌^◌, ◌<◌, ◌≤◌, Bool, true, List, [], ◌∷◌, ◌++◌, map, length, Option, sym, refl, ap, ◌∙◌, ap₂, add-zero, arith}
-use Rattle.order.specs.declared.board.TheConstants.{CARDS}
-use Rattle.order.specs.Lists.{has}
+use Rattle.search.proofs.Common.{CARDS, has, Column, cell, written, apart, SLOTS, clear, Writes, CHOSEN, marked, next_up, first_mark, Summed, CellsAlone}
+use Rattle.search.proofs.Common.{Gathered, gathered, gathers, both_next, seated, dealt, given}
 use Rattle.order.proofs.Members.{has_head, has_tail}
-use Rattle.memory.specs.declared.column.Column.{Column}
-use Rattle.memory.specs.Columns.{cell, written, apart}
-use Rattle.row.specs.declared.layout.TheConstants.{SLOTS}
-use Rattle.memory.specs.Footprints.{clear, Writes}
 use Rattle.memory.proofs.Footprints.{same, on, put_one}
 use Rattle.memory.proofs.Cells.{length_written, cell_same, cell_other, cell_apart}
-use Rattle.search.specs.declared.layout.TheConstants.{CHOSEN}
-use Rattle.memory.specs.PlaceSets.{marked, next_up, first_mark}
-use Rattle.memory.specs.PlaceSetLaws.{Summed, CellsAlone}
-use Rattle.search.specs.Settle.{Gathered, gathered, gathers, both_next, seated, dealt}
 use Rattle.memory.proofs.Alone.{cells_alone}
 use Rattle.memory.proofs.Upward.{going_up, first_of_all}
 use Rattle.search.proofs.Listed.{From, Lists, from_after, from_least, from_list}
 use Rattle.memory.proofs.Fuel.{fuel_step, fuel_end}
-use Rattle.memory.specs.Options.{given}
 
 abbrev pub all : List ℕ → ℕ → Gathered
 all m i = record { memory = m; end = i }

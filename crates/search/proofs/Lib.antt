@@ -1,3 +1,4 @@
+pub mod Common
 pub mod Zeros
 pub mod Following
 pub mod Joining

@@ -2,11 +2,9 @@
 use Rattle.std.proofs.Common.{◌≡◌, ℕ, zero, suc, ◌+◌, ◌<◌, ◌≤◌, Bool, true, false, ◌||◌, eqb, List, [], ◌∷◌, Some, None, Option, sym, refl, ap, ◌∙◌, inl, inr, arith}
 use Rattle.std.specs.List.{range_with_len}
 use Rattle.std.proofs.lemmas.Bool.{cases_Bool, cases_eq, cases_lt, eqb-true, both_ways, and_parts, or_left, or_right, or_from}
-use Rattle.order.specs.Lists.{any, filter, has, distinct}
+use Rattle.search.proofs.Common.{any, filter, has, distinct, JustAfter, Least, sooner}
 use Rattle.order.proofs.Filters.{has_filter, distinct_filter}
-use Rattle.memory.specs.PlaceSetLaws.{JustAfter, Least}
 use Rattle.memory.proofs.Nearest.{Up, Nearest, one}
-use Rattle.search.specs.Settle.{sooner}
 
 -- o is the first number from p on that passes f, or there is none
 abbrev pub From : (ℕ → Bool) → ℕ → Option ℕ → Type 0

@@ -1,19 +1,10 @@
 -- The two searches at their end: each has come to all that it should, or they have met.
 use Rattle.std.proofs.Common.{◌≡◌, ℕ, zero, suc, ◌≤◌, Bool, true, ◌&&◌, List, ap, arith}
 use Rattle.std.proofs.lemmas.Bool.{false_from_ne_true}
-use Rattle.order.specs.Board.{leads, linked}
+use Rattle.search.proofs.Common.{leads, linked, cell, marked, SEATS, used, taken, edges, Side, Fore, Hind, FORE, HIND, marks_of, other, joined, slot_board}
+use Rattle.search.proofs.Common.{slot_on, part, Parted, Trailed}
 use Rattle.order.proofs.Ways.{Way}
 use Rattle.order.proofs.Climbs.{fine_parts, leads_way}
-use Rattle.memory.specs.Columns.{cell}
-use Rattle.memory.specs.PlaceSets.{marked}
-use Rattle.row.specs.declared.layout.TheConstants.{SEATS}
-use Rattle.row.specs.Meaning.{used, taken}
-use Rattle.links.specs.Table.{edges}
-use Rattle.search.specs.declared.side.Side.{Side}
-use Rattle.search.specs.declared.side.Side.TheVariants.{Fore, Hind}
-use Rattle.search.specs.declared.layout.TheConstants.{FORE, HIND}
-use Rattle.search.specs.Sides.{marks_of, other, joined}
-use Rattle.search.specs.Meaning.{slot_board, slot_on, part, Parted, Trailed}
 use Rattle.search.proofs.Between.{arc, Setting, used_tells, taken_tells, arc_tells, comes_round, part_tells, part_from}
 use Rattle.search.proofs.Sounding.{Sound}
 

@@ -1,7 +1,6 @@
 -- Fuel: how many links a key has, and what all keys that are left have in all.
 use Rattle.std.proofs.Common.{◌≡◌, ℕ, zero, suc, ◌+◌, ◌<◌, ◌≤◌, Bool, true, false, cond, eqb, ltb, List, [], ◌∷◌, length, refl, ⊎_elim, arith}
-use Rattle.order.specs.declared.board.Link.{Link}
-use Rattle.order.specs.Lists.{filter}
+use Rattle.search.proofs.Common.{Link, filter}
 use Rattle.std.proofs.lemmas.Bool.{cases_eq}
 use Rattle.std.proofs.lemmas.Bool.Decides.{nat_tests}
 

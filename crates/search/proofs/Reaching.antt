@@ -4,12 +4,8 @@ use mathlib.Core.List.{reverse_aux}
 use Rattle.std.proofs.lemmas.Bool.{cases_Bool}
 use Rattle.std.proofs.lemmas.Bool.Decides.{nat_tests}
 use Rattle.std.proofs.lemmas.List.{length-map, length-reverse}
-use Rattle.order.specs.declared.board.TheConstants.{CARDS}
-use Rattle.order.specs.declared.board.Link.{Link}
-use Rattle.order.specs.Lists.{any, has, filter}
-use Rattle.memory.specs.Columns.{cell}
+use Rattle.search.proofs.Common.{CARDS, Link, any, has, filter, cell, Pointer, edges, IsTable, Side, Fore, Hind, table_of, slot_board}
 use Rattle.memory.proofs.Options.{given_holds}
-use Rattle.chains.specs.declared.cells.Pointer.{Pointer}
 use Rattle.chains.specs.declared.chain_table.ChainTable.{ChainTable}
 use Rattle.chains.specs.Tables.{node, at}
 use Rattle.chains.specs.Chains.{Holds}
@@ -19,12 +15,7 @@ use Rattle.chains.proofs.Walking.{Leads, leads}
 use Rattle.chains.proofs.Reading.{reads}
 use Rattle.links.specs.declared.layout.TheConstants.{ENTRIES, AGE, ALL}
 use Rattle.links.specs.Pairs.{unpair}
-use Rattle.links.specs.Table.{edges, IsTable}
 use Rattle.links.specs.Laws.{Gives}
-use Rattle.search.specs.declared.side.Side.{Side}
-use Rattle.search.specs.declared.side.Side.TheVariants.{Fore, Hind}
-use Rattle.search.specs.Sides.{table_of}
-use Rattle.search.specs.Meaning.{slot_board}
 use Rattle.links.proofs.Giving.{gives}
 use Rattle.search.proofs.Between.{arc}
 use Rattle.search.proofs.Potential.{entries, entries_are}

@@ -2,8 +2,7 @@
 use Rattle.std.proofs.Common.{◌≡◌, ℕ, zero, suc, ◌+◌, ◌<◌, ◌≤◌, Bool, true, ltb, ◌⊎◌, List, [], ◌∷◌, length, refl, ap, ◌∙◌, subst, inl, inr, arith}
 use mathlib.Core.List.{reverse_aux}
 use Rattle.std.proofs.lemmas.Bool.{false_from_ne_true, cases_eq, eq-eqb, ne_eqb, lt-ltb, ltb-true, and_from, and_parts}
-use Rattle.order.specs.Lists.{every, any, has, place, distinct}
-use Rattle.order.specs.Board.{Board, linked}
+use Rattle.search.proofs.Common.{every, any, has, place, distinct, Board, linked}
 use Rattle.order.specs.Reordering.{follows, last_of, goes_round}
 use Rattle.order.proofs.Filters.{every_has, every_more}
 use Rattle.order.proofs.Climbs.{Fine, link_before}

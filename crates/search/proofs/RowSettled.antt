@@ -5,33 +5,24 @@ use Rattle.std.proofs.lemmas.List.{length-map}
 use Rattle.std.proofs.lemmas.Bool.{or_left}
 use Rattle.std.proofs.lemmas.Bool.Decides.{nat_tests}
 use Rattle.order.proofs.Places.{has_append}
-use Rattle.order.specs.declared.board.TheConstants.{CARDS}
-use Rattle.order.specs.Lists.{filter, has, place}
-use Rattle.order.specs.Board.{Board, leads, keeps}
+use Rattle.search.proofs.Common.{CARDS, filter, has, place, Board, leads, keeps, Column, cell, clear, View, view, Writes, Summed, CellsAlone, SEATS_MOST}
+use Rattle.search.proofs.Common.{COUNT, ENDING, FRESH, FREE, IDS, CHAIN, SLOTS, SEATS, TAKEN, ending, listed, amount, bit_set, in_use, taken, rank, row_of}
+use Rattle.search.proofs.Common.{used, Standing, IsRow, FORE, HIND, CHOSEN, columns, searched, sets, slot_board, slot_on, part, Ready, Parted, Gathered}
+use Rattle.search.proofs.Common.{gathers, both_first, dealt, forgotten, chose, settled}
 use Rattle.order.specs.Reordering.{with_link, firm}
 use Rattle.order.proofs.Parts.{with_part}
 use Rattle.order.proofs.Refilled.{either, refilled}
 use Rattle.order.proofs.Climbs.{Fine, fine_parts}
 use Rattle.order.proofs.Allowed.{Open, sides_apart}
 use Rattle.order.proofs.Firm.{firm_row, firm_row_is, firm_is, firm_keeps}
-use Rattle.memory.specs.declared.column.Column.{Column}
-use Rattle.memory.specs.Columns.{cell}
-use Rattle.memory.specs.Footprints.{clear, View, view, Writes}
-use Rattle.memory.specs.PlaceSetLaws.{Summed, CellsAlone}
 use Rattle.memory.proofs.Alone.{cells_alone}
 use Rattle.memory.proofs.Footprints.{kept, less, after}
-use Rattle.row.specs.declared.layout.TheConstants.{SEATS_MOST, COUNT, ENDING, FRESH, FREE, IDS, CHAIN, SLOTS, SEATS, TAKEN}
-use Rattle.row.specs.Meaning.{ending, listed, amount, bit_set, in_use, taken, rank, row_of, used, Standing, IsRow}
 use Rattle.row.proofs.Listing.{amount_more}
 use Rattle.row.proofs.Along.{amount_before}
 use Rattle.row.proofs.Seatings.{one_seat}
 use Rattle.row.proofs.Named.{used_seat, has_slot, place_slot}
 use Rattle.row.proofs.Present.{few_cards}
 use Rattle.links.proofs.Keeping.{table_kept, edges_kept}
-use Rattle.search.specs.declared.layout.TheConstants.{FORE, HIND, CHOSEN}
-use Rattle.search.specs.Columns.{columns, searched, sets}
-use Rattle.search.specs.Meaning.{slot_board, slot_on, part, Ready, Parted}
-use Rattle.search.specs.Settle.{Gathered, gathers, both_first, dealt, forgotten, chose, settled}
 use Rattle.search.specs.SettleLaws.{Unmarked, Settled, Settles}
 use Rattle.search.proofs.Listed.{Lists, lists_filter, counting_has}
 use Rattle.search.proofs.InThree.{before, inner, behind, in_inner, inner_once, before_out, behind_out, part_end, in_three}

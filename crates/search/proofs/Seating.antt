@@ -2,10 +2,8 @@
 use Rattle.std.proofs.Common.{◌≡◌, ℕ, ◌<◌, Bool, true, false, ◌&&◌, eqb, ltb, List, [], ◌∷◌, length, sym, ap, ◌∙◌, subst, inl, inr, arith}
 use Rattle.std.proofs.lemmas.Bool.{cases_Bool, both_ways, false_from_ne_true, lt-ltb, eq-eqb, and_from}
 use Rattle.std.proofs.lemmas.Bool.Decides.{nat_tests}
-use Rattle.order.specs.declared.board.TheConstants.{CARDS}
-use Rattle.order.specs.Lists.{has, distinct}
+use Rattle.search.proofs.Common.{CARDS, has, distinct, in_use, Seating, Stacked, Chains, Freed, Standing}
 use Rattle.order.proofs.Members.{has_head, has_tail}
-use Rattle.row.specs.Meaning.{in_use, Seating, Stacked, Chains, Freed, Standing}
 use Rattle.search.proofs.Exchanged.{exchanged, exchanged_out, exchanged_in}
 
 -- ks are the slots at the seats ps, all held, in another order

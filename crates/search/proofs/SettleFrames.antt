@@ -2,24 +2,15 @@
 use Rattle.std.proofs.Common.{◌≡◌, ℕ, zero, suc, ◌+◌, ◌-◌, ◌*◌, ◌/◌, ◌%◌, ◌^◌, ◌<◌, ◌≤◌, List, [], ◌∷◌, Some, None, Option, refl, ◌∙◌, arith}
 use Rattle.std.proofs.lemmas.Nat.{trailing_le}
 use Rattle.std.proofs.lemmas.Bool.Decides.{nat_tests}
-use Rattle.order.specs.declared.board.TheConstants.{CARDS}
-use Rattle.memory.specs.declared.column.Column.{Column}
-use Rattle.memory.specs.declared.place_set.TheConstants.{PLACES}
-use Rattle.memory.specs.Columns.{cell}
-use Rattle.memory.specs.Options.{Within}
+use Rattle.search.proofs.Common.{CARDS, Column, PLACES, cell, Within, Writes, next_bit, tops_up, word_up, up_from, next_up, first_mark, wiped, Summed}
+use Rattle.search.proofs.Common.{CellsAlone, SLOTS, SEATS, CHOSEN, FORE, HIND, sets, gathered, gathers, both_first, both_next, seated, dealt, forgotten}
+use Rattle.search.proofs.Common.{chose, reseated, settled}
 use Rattle.memory.proofs.Options.{given_holds}
-use Rattle.memory.specs.Footprints.{Writes}
-use Rattle.memory.specs.PlaceSets.{next_bit, tops_up, word_up, up_from, next_up, first_mark, wiped}
-use Rattle.memory.specs.PlaceSetLaws.{Summed, CellsAlone}
 use Rattle.memory.proofs.Alone.{writes_wiped, cells_alone}
 use Rattle.memory.proofs.Cells.{small_cell}
 use Rattle.memory.proofs.Footprints.{same, on, less, after, put_one}
 use Rattle.memory.proofs.Wiping.{wiping}
-use Rattle.row.specs.declared.layout.TheConstants.{SLOTS, SEATS}
 use Rattle.row.proofs.Framing.{put_at_writes}
-use Rattle.search.specs.declared.layout.TheConstants.{CHOSEN, FORE, HIND}
-use Rattle.search.specs.Columns.{sets}
-use Rattle.search.specs.Settle.{gathered, gathers, both_first, both_next, seated, dealt, forgotten, chose, reseated, settled}
 use Rattle.search.specs.SettleLaws.{Unmarked, Forgets}
 
 pub writes_forgotten : (m : List ℕ) → Writes sets m (forgotten m)

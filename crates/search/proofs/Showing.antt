@@ -1,19 +1,10 @@
 -- What is shown after the two searches met is a way that goes round.
 use Rattle.std.proofs.Common.{◌≡◌, ℕ, ◌-◌, ◌<◌, ◌≤◌, true, List, ◌++◌, map, length, drop, refl, ap, ◌∙◌, arith}
 use mathlib.Core.List.{reverse_aux-eq}
-use Rattle.order.specs.declared.board.TheConstants.{CARDS}
-use Rattle.order.specs.declared.board.Link.{Link}
-use Rattle.order.specs.Lists.{place}
-use Rattle.order.specs.Board.{◌⟶◌, linked}
+use Rattle.search.proofs.Common.{CARDS, Link, place, ◌⟶◌, linked, cell, marked, IDS, SEATS, row_of, used, VIA, FORE, HIND, slot_board, Ready, Trailed}
 use Rattle.order.proofs.Places.{place_below}
 use Rattle.order.proofs.Climbs.{fine_parts, link_before}
-use Rattle.memory.specs.Columns.{cell}
-use Rattle.memory.specs.PlaceSets.{marked}
-use Rattle.row.specs.declared.layout.TheConstants.{IDS, SEATS}
-use Rattle.row.specs.Meaning.{row_of, used}
 use Rattle.row.proofs.Rows.{seated, length_row, has_is}
-use Rattle.search.specs.declared.layout.TheConstants.{VIA, FORE, HIND}
-use Rattle.search.specs.Meaning.{slot_board, Ready, Trailed}
 use Rattle.search.specs.Way.{trail, way, shown, ShownSo}
 use Rattle.search.specs.WayLaws.{way_of, Round, ShowsWay}
 use Rattle.search.proofs.Joining.{way_few, shown_is}

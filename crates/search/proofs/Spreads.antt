@@ -2,26 +2,13 @@
 use Rattle.std.proofs.Common.{◌≡◌, ℕ, zero, suc, ◌+◌, ◌<◌, ◌≤◌, Bool, true, false, cond, eqb, List, [], ◌∷◌, length, Some, None, Continue, Break, ControlFlow, sym, refl, ap, ◌∙◌, inl, inr, ⊎_elim, arith}
 use Rattle.std.proofs.lemmas.Bool.Decides.{nat_tests}
 use Rattle.std.proofs.lemmas.Bool.{cases_Bool, both_ways, and_parts, or_cases, or_right, eqb-true}
-use Rattle.order.specs.Lists.{any, has}
-use Rattle.order.specs.Board.{◌⟶◌}
-use Rattle.memory.specs.Columns.{cell}
-use Rattle.memory.specs.Footprints.{clear}
-use Rattle.memory.specs.PlaceSets.{marked}
-use Rattle.row.specs.declared.layout.TheConstants.{SEATS}
-use Rattle.row.specs.Meaning.{used}
-use Rattle.chains.specs.declared.cells.Pointer.{Pointer}
+use Rattle.search.proofs.Common.{any, has, ◌⟶◌, cell, clear, marked, SEATS, used, Pointer, Side, Fore, Hind, Part, searched, table_of, marks_of, other}
+use Rattle.search.proofs.Common.{sees, entered, turn, Spreading, spreading, part_of, slot_board, part}
 use Rattle.chains.specs.declared.chain_table.ChainTable.{ChainTable}
 use Rattle.chains.specs.Packing.{decoded}
 use Rattle.chains.specs.Tables.{node, at}
 use Rattle.chains.specs.Walks.{met}
 use Rattle.chains.proofs.Walking.{Leads, met_none, met_some}
-use Rattle.search.specs.declared.side.Side.{Side}
-use Rattle.search.specs.declared.side.Side.TheVariants.{Fore, Hind}
-use Rattle.search.specs.declared.hunt.Part.{Part}
-use Rattle.search.specs.Columns.{searched}
-use Rattle.search.specs.Sides.{table_of, marks_of, other}
-use Rattle.search.specs.Hunt.{sees, entered, turn, Spreading, spreading, part_of}
-use Rattle.search.specs.Meaning.{slot_board, part}
 use Rattle.search.proofs.Between.{arc, Setting}
 use Rattle.search.proofs.Reaching.{labels}
 use Rattle.search.proofs.Sounding.{Sound, Grown, grown_on}

@@ -1,25 +1,11 @@
 -- The two searches at their start, and what they find.
 use Rattle.std.proofs.Common.{◌≡◌, ℕ, ◌<◌, ◌≤◌, Bool, true, ◌||◌, eqb, List, Some, Option, sym, refl, ap, ◌∙◌, inl, arith}
 use Rattle.std.proofs.lemmas.Bool.{both_ways, eq-eqb, eqb-true}
-use Rattle.order.specs.declared.board.TheConstants.{CARDS}
-use Rattle.order.specs.declared.board.Link.{Link}
-use Rattle.order.specs.Board.{◌⟶◌}
-use Rattle.memory.specs.declared.place_set.TheConstants.{PLACES}
-use Rattle.memory.specs.Columns.{cell}
-use Rattle.memory.specs.PlaceSets.{marked, added}
-use Rattle.memory.specs.PlaceSetLaws.{Summed}
+use Rattle.search.proofs.Common.{CARDS, Link, ◌⟶◌, PLACES, cell, marked, added, Summed, SLOTS, SEATS, used, edges, Side, Fore, Hind, FORE, HIND, marks_of}
+use Rattle.search.proofs.Common.{other, front, started, meeting, Ready}
 use Rattle.memory.proofs.Adding.{adding}
 use Rattle.memory.proofs.Alone.{writes_added}
-use Rattle.row.specs.declared.layout.TheConstants.{SLOTS, SEATS}
-use Rattle.row.specs.Meaning.{used}
-use Rattle.links.specs.Table.{edges}
-use Rattle.search.specs.declared.side.Side.{Side}
-use Rattle.search.specs.declared.side.Side.TheVariants.{Fore, Hind}
 use Rattle.search.specs.declared.hunt.TheConstants.{FUEL, TURNS}
-use Rattle.search.specs.declared.layout.TheConstants.{FORE, HIND}
-use Rattle.search.specs.Sides.{marks_of, other}
-use Rattle.search.specs.Hunt.{front, started, meeting}
-use Rattle.search.specs.Meaning.{Ready}
 use Rattle.search.specs.HuntLaws.{Found, Meets}
 use Rattle.search.proofs.Touching.{writes_started}
 use Rattle.search.proofs.Potential.{weight_all}

@@ -1,26 +1,15 @@
 -- What a search writes, whatever stands in the memory.
 use Rattle.std.proofs.Common.{◌≡◌, ℕ, zero, suc, ◌^◌, ◌<◌, ◌&&◌, List, Some, None, Option, refl, Continue, Break, ControlFlow}
-use Rattle.order.specs.declared.board.Link.{Link}
-use Rattle.memory.specs.Columns.{cell}
-use Rattle.memory.specs.Footprints.{Small, Writes}
-use Rattle.memory.specs.PlaceSets.{added}
+use Rattle.search.proofs.Common.{Link, cell, Small, Writes, added, SLOTS, Pointer, Side, Fore, Hind, Part, Front, VIA, FORE, HIND, searched, table_of}
+use Rattle.search.proofs.Common.{marks_of, entered, left_by, turn, Spreading, spread_on, spreading, Going, gone_on, idle, Met, hunt_on, hunted, meeting}
+use Rattle.search.proofs.Common.{started, part_of}
 use Rattle.memory.proofs.Cells.{small_cell}
 use Rattle.memory.proofs.Footprints.{same, on, put, either, after}
 use Rattle.memory.proofs.Options.{given_holds}
 use Rattle.std.proofs.lemmas.Bool.{cond_both}
 use Rattle.memory.proofs.Alone.{writes_added}
-use Rattle.row.specs.declared.layout.TheConstants.{SLOTS}
-use Rattle.chains.specs.declared.cells.Pointer.{Pointer}
 use Rattle.chains.specs.Walks.{met}
-use Rattle.search.specs.declared.side.Side.{Side}
-use Rattle.search.specs.declared.side.Side.TheVariants.{Fore, Hind}
 use Rattle.search.specs.declared.hunt.TheConstants.{TURNS}
-use Rattle.search.specs.declared.hunt.Part.{Part}
-use Rattle.search.specs.declared.hunt.Front.{Front}
-use Rattle.search.specs.declared.layout.TheConstants.{VIA, FORE, HIND}
-use Rattle.search.specs.Columns.{searched}
-use Rattle.search.specs.Sides.{table_of, marks_of}
-use Rattle.search.specs.Hunt.{entered, left_by, turn, Spreading, spread_on, spreading, Going, gone_on, idle, Met, hunt_on, hunted, meeting, started, part_of}
 
 abbrev W : List ℕ → List ℕ → Type 0
 W m n = Writes searched m n
