@@ -13,27 +13,22 @@ abbrev pub Closed : List ℕ → ℕ → ℕ → Side → List ℕ → ℕ → T
 Closed m a b d n q = (t : ℕ) → arc (slot_board m) d (slot_on m q) t ≡ true → part m a b (cell m SEATS t) ≡ true → marked n (marks_of d) (cell m SEATS t) ≡ true
 
 module _ (m : List ℕ) (a b : ℕ) (S : Setting m a b) (n : List ℕ) (s : Sound m a b n) where
-  -- ways go up
-  way_up : (k y z : ℕ) → Way (edges m) k y z → used m y ≡ true → (cell m SEATS y ≤ cell m SEATS z) × (used m z ≡ true)
-  way_up zero y z w u = (omega (arith, ap (cell m SEATS) w), rw w at u)
-  way_up (suc k) y z w u =
-      let t = arc_tells m a b S Fore y w.0 w.1 in
-      let ih = way_up k w.0 z w.2 t.1 in
-      (omega (arith, t.2, ih.0), ih.1)
-
-  here : (d : Side) (y : ℕ) → used m y ≡ true → marked n (marks_of d) (cell m SEATS y) ≡ true → (cell m SEATS b ≤ cell m SEATS y) × (cell m SEATS y ≤ cell m SEATS a)
-  here d y u h = let p = part_tells m a b S (cell m SEATS y) (s.within d (cell m SEATS y) h).1 in (p.0, p.1)
+  ways : (y z : ℕ) → leads (slot_board m) y z ≡ true → (k : ℕ) × Way (edges m) k y z
+  ways y z l = leads_way (slot_board m) (fine_parts (slot_board m) S.ready.fine_so) y z l
 
   module _ (closed : (d : Side) (q : ℕ) → marked n (marks_of d) q ≡ true → Closed m a b d n q) where
-    fore_all : (k y z : ℕ) → Way (edges m) k y z → used m y ≡ true → marked n FORE.column (cell m SEATS y) ≡ true → cell m SEATS z ≤ cell m SEATS a
-        → marked n FORE.column (cell m SEATS z) ≡ true
-    fore_all zero y z w u h l = rw w at h
-    fore_all (suc k) y z w u h l =
+    -- ways go up
+    fore_all : (k y z : ℕ) → Way (edges m) k y z → used m y ≡ true → (cell m SEATS y ≤ cell m SEATS z)
+        × (marked n FORE.column (cell m SEATS y) ≡ true → cell m SEATS z ≤ cell m SEATS a → marked n FORE.column (cell m SEATS z) ≡ true)
+    fore_all zero y z w u = (omega (arith, ap (cell m SEATS) w), λ h l. rw w at h)
+    fore_all (suc k) y z w u =
         let t = arc_tells m a b S Fore y w.0 w.1 in
-        let up = way_up k w.0 z w.2 t.1 in
+        let ih = fore_all k w.0 z w.2 t.1 in
         let e = (used_tells m a b S y u).2 in
-        let p = part_from m a b S (cell m SEATS w.0) (omega (arith, (here Fore y u h).0, t.2)) (omega (arith, up.0)) in
-        fore_all k w.0 z w.2 t.1 (closed Fore (cell m SEATS y) h w.0 (rw e w.1) p) l
+        (omega (arith, t.2, ih.0), λ h l.
+          let i = part_tells m a b S (cell m SEATS y) (s.within Fore (cell m SEATS y) h).1 in
+          let p = part_from m a b S (cell m SEATS w.0) (omega (arith, i, t.2)) (omega (arith, ih.0)) in
+          ih.1 (closed Fore (cell m SEATS y) h w.0 (rw e w.1) p) l)
 
     hind_all : (k y z : ℕ) → Way (edges m) k y z → used m z ≡ true → marked n HIND.column (cell m SEATS z) ≡ true → cell m SEATS b ≤ cell m SEATS y
         → marked n HIND.column (cell m SEATS y) ≡ true
@@ -42,22 +37,8 @@ module _ (m : List ℕ) (a b : ℕ) (S : Setting m a b) (n : List ℕ) (s : Soun
         let t = arc_tells m a b S Fore y w.0 w.1 in
         let ih = hind_all k w.0 z w.2 u h (omega (arith, t.2)) in
         let e = (used_tells m a b S w.0 t.1).2 in
-        let p = part_from m a b S (cell m SEATS y) l (omega (arith, t.2, (here Hind w.0 t.1 ih).1)) in
-        closed Hind (cell m SEATS w.0) ih y (rw e w.1) p
-
-    fore_led : (p : ℕ) → taken m p ≡ true → part m a b p ≡ true → leads (slot_board m) b (slot_on m p) ≡ true → marked n FORE.column p ≡ true
-    fore_led p h i l =
-        let w = leads_way (slot_board m) (fine_parts (slot_board m) S.ready.fine_so) b (slot_on m p) l in
-        let t = part_tells m a b S p i in
-        let e = (taken_tells m a b S p h).1 in
-        rw e at (fore_all w.0 b (slot_on m p) w.1 S.b_used (s.start Fore) (rw e t.1))
-
-    hind_led : (p : ℕ) → taken m p ≡ true → part m a b p ≡ true → leads (slot_board m) (slot_on m p) a ≡ true → marked n HIND.column p ≡ true
-    hind_led p h i l =
-        let w = leads_way (slot_board m) (fine_parts (slot_board m) S.ready.fine_so) (slot_on m p) a l in
-        let t = part_tells m a b S p i in
-        let e = (taken_tells m a b S p h).1 in
-        rw e at (hind_all w.0 (slot_on m p) a w.1 S.a_used (s.start Hind) (rw e t.0))
+        let i = part_tells m a b S (cell m SEATS w.0) (s.within Hind (cell m SEATS w.0) ih).1 in
+        closed Hind (cell m SEATS w.0) ih y (rw e w.1) (part_from m a b S (cell m SEATS y) l (omega (arith, t.2, i)))
 
     just : (p : ℕ) (d : Side) (l : Bool) → (taken m p ≡ true → part m a b p ≡ true → l ≡ true → marked n (marks_of d) p ≡ true) →
         (marked n (marks_of d) p ≡ true → l ≡ true) → marked n (marks_of d) p ≡ (taken m p && (part m a b p && l))
@@ -69,10 +50,16 @@ module _ (m : List ℕ) (a b : ℕ) (S : Setting m a b) (n : List ℕ) (s : Soun
       fore_summed = s.summed Fore;
       hind_summed = s.summed Hind;
       no_round = false_from_ne_true _ (λ h.
-        let w = leads_way (slot_board m) (fine_parts (slot_board m) S.ready.fine_so) b a h in
-        s.alone Fore (cell m SEATS a) (fore_all w.0 b a w.1 S.b_used (s.start Fore) (omega arith)) (s.start Hind));
-      fore_is = λ p. just p Fore (leads (slot_board m) b (slot_on m p)) (fore_led p) (s.led Fore p);
-      hind_is = λ p. just p Hind (leads (slot_board m) (slot_on m p) a) (hind_led p) (s.led Hind p);
+        let w = ways b a h in
+        s.alone Fore (cell m SEATS a) ((fore_all w.0 b a w.1 S.b_used).1 (s.start Fore) (omega arith)) (s.start Hind));
+      fore_is = λ p. just p Fore (leads (slot_board m) b (slot_on m p)) (λ h i l.
+        let w = ways b (slot_on m p) l in
+        let e = (taken_tells m a b S p h).1 in
+        rw e at ((fore_all w.0 b (slot_on m p) w.1 S.b_used).1 (s.start Fore) (rw e (part_tells m a b S p i).1))) (s.led Fore p);
+      hind_is = λ p. just p Hind (leads (slot_board m) (slot_on m p) a) (λ h i l.
+        let w = ways (slot_on m p) a l in
+        let e = (taken_tells m a b S p h).1 in
+        rw e at (hind_all w.0 (slot_on m p) a w.1 S.a_used (s.start Hind) (rw e (part_tells m a b S p i).0))) (s.led Hind p);
     }
 
   -- they have met
