@@ -33,9 +33,9 @@ unfolding distinct
 distinct_map g [] d inj = refl
 distinct_map g (x ∷ xs) d inj =
     let new = false_from_ne_true _ (λ e.
-      let w = map_has g xs (g x) e in
-      let s = inj x w.0 (has_head x xs) (has_tail x xs w.0 w.1) (sym w.2) in
-      both_ways (has xs x) (not_again x xs d) (ap (has xs) s ∙ w.1)) in
+    let w = map_has g xs (g x) e in
+    let s = inj x w.0 (has_head x xs) (has_tail x xs w.0 w.1) (sym w.2) in
+    both_ways (has xs x) (not_again x xs d) (ap (has xs) s ∙ w.1)) in
     rw (new, distinct_map g xs (distinct_tail x xs d) (λ p q h k. inj p q (has_tail x xs p h) (has_tail x xs q k)))
 
 pub map_filter : (g : ℕ → ℕ) (A : ℕ → Bool) (xs : List ℕ) → map g (filter (λ p. A (g p)) xs) ≡ filter A (map g xs)

@@ -24,11 +24,13 @@ module _ (m : List ℕ) (a b : ℕ) (S : Setting m a b) (n : List ℕ) (s : Soun
     fore_all (suc k) y z w u =
         let t = arc_tells m a b S Fore y w.0 w.1 in
         let ih = fore_all k w.0 z w.2 t.1 in
-        let e = (used_tells m a b S y u).2 in
-        (omega (arith, t.2, ih.0), λ h l.
-          let i = part_tells m a b S (cell m SEATS y) (s.within Fore (cell m SEATS y) h).1 in
-          let p = part_from m a b S (cell m SEATS w.0) (omega (arith, i, t.2)) (omega (arith, ih.0)) in
-          ih.1 (closed Fore (cell m SEATS y) h w.0 (rw e w.1) p) l)
+        let e = (used_tells m a b S y u).2 in (
+          omega (arith, t.2, ih.0),
+          λ h l.
+              let i = part_tells m a b S (cell m SEATS y) (s.within Fore (cell m SEATS y) h).1 in
+              let p = part_from m a b S (cell m SEATS w.0) (omega (arith, i, t.2)) (omega (arith, ih.0)) in
+              ih.1 (closed Fore (cell m SEATS y) h w.0 (rw e w.1) p) l,
+        )
 
     hind_all : (k y z : ℕ) → Way (edges m) k y z → used m z ≡ true → marked n HIND.column (cell m SEATS z) ≡ true → cell m SEATS b ≤ cell m SEATS y
         → marked n HIND.column (cell m SEATS y) ≡ true
@@ -50,16 +52,16 @@ module _ (m : List ℕ) (a b : ℕ) (S : Setting m a b) (n : List ℕ) (s : Soun
       fore_summed = s.summed Fore;
       hind_summed = s.summed Hind;
       no_round = false_from_ne_true _ (λ h.
-        let w = ways b a h in
-        s.alone Fore (cell m SEATS a) ((fore_all w.0 b a w.1 S.b_used).1 (s.start Fore) (omega arith)) (s.start Hind));
+          let w = ways b a h in
+          s.alone Fore (cell m SEATS a) ((fore_all w.0 b a w.1 S.b_used).1 (s.start Fore) (omega arith)) (s.start Hind));
       fore_is = λ p. just p Fore (leads (slot_board m) b (slot_on m p)) (λ h i l.
-        let w = ways b (slot_on m p) l in
-        let e = (taken_tells m a b S p h).1 in
-        rw e at ((fore_all w.0 b (slot_on m p) w.1 S.b_used).1 (s.start Fore) (rw e (part_tells m a b S p i).1))) (s.led Fore p);
+          let w = ways b (slot_on m p) l in
+          let e = (taken_tells m a b S p h).1 in
+          rw e at ((fore_all w.0 b (slot_on m p) w.1 S.b_used).1 (s.start Fore) (rw e (part_tells m a b S p i).1))) (s.led Fore p);
       hind_is = λ p. just p Hind (leads (slot_board m) (slot_on m p) a) (λ h i l.
-        let w = ways (slot_on m p) a l in
-        let e = (taken_tells m a b S p h).1 in
-        rw e at (hind_all w.0 (slot_on m p) a w.1 S.a_used (s.start Hind) (rw e (part_tells m a b S p i).0))) (s.led Hind p);
+          let w = ways (slot_on m p) a l in
+          let e = (taken_tells m a b S p h).1 in
+          rw e at (hind_all w.0 (slot_on m p) a w.1 S.a_used (s.start Hind) (rw e (part_tells m a b S p i).0))) (s.led Hind p);
     }
 
   -- they have met

@@ -20,7 +20,7 @@ use Rattle.memory.proofs.Footprints.{kept, less, after}
 use Rattle.row.proofs.Listing.{amount_more}
 use Rattle.row.proofs.Along.{amount_before}
 use Rattle.row.proofs.Seatings.{one_seat}
-use Rattle.row.proofs.Named.{used_seat, has_slot, place_slot}
+use Rattle.row.proofs.Named.{used_seat, has_slot, place_ranked}
 use Rattle.row.proofs.Present.{few_cards}
 use Rattle.links.proofs.Keeping.{table_kept, edges_kept}
 use Rattle.search.specs.SettleLaws.{Unmarked, Settled, Settles}
@@ -264,14 +264,14 @@ module _ (m m₁ : List ℕ) (a b : ℕ) (R : Ready m) (ua : used m a ≡ true) 
   -- that is the firm row
   back_row : place (row_of m) b < place (row_of m) a
   back_row =
-      let x = place_slot m R.is_row a ua in
-      let y = place_slot m R.is_row b ub in
+      let x = place_ranked m R.is_row a ua in
+      let y = place_ranked m R.is_row b ub in
       let z = amount_before (taken m) lo hi back (used_seat m R.is_row b ub).0 in
       omega arith
 
   firm_so : row_of m' ≡ firm_row r f a b open_so back_row
   firm_so =
-      row_so ∙ ap₂ (λ (x y : ℕ). with_part (refilled B A) (row_of m) x (suc y)) (sym (place_slot m R.is_row b ub)) (sym (place_slot m R.is_row a ua))
+      row_so ∙ ap₂ (λ (x y : ℕ). with_part (refilled B A) (row_of m) x (suc y)) (sym (place_ranked m R.is_row b ub)) (sym (place_ranked m R.is_row a ua))
       ∙ sym (firm_row_is r f a b open_so back_row)
 
   summed_m₃ : (c : Column) → clear (CHOSEN ∷ []) c ≡ true → clear (SLOTS ∷ SEATS ∷ []) c ≡ true → Summed m₁ c → Summed m₃ c
@@ -289,8 +289,8 @@ module _ (m m₁ : List ℕ) (a b : ℕ) (R : Ready m) (ua : used m a ≡ true) 
     wrote = wrote_so;
     same_edges = edges_kept written_columns refl m m' wrote_so;
     same_used = λ s.
-      as_before (λ v. in_use (cell m' SLOTS) (cell m' SEATS) (bit_set (v.at TAKEN)) s ≡ used m s)
-      (used_same _ _ _ _ ps ks _ _ slot _ (taken m) R.is_row.stands rearranged _ _ slots_are seats_same s);
+        as_before (λ v. in_use (cell m' SLOTS) (cell m' SEATS) (bit_set (v.at TAKEN)) s ≡ used m s)
+        (used_same _ _ _ _ ps ks _ _ slot _ (taken m) R.is_row.stands rearranged _ _ slots_are seats_same s);
     same_taken = λ p. as_before (λ v. bit_set (v.at TAKEN) p ≡ taken m p) refl;
     is_firm = ap (λ (x : List ℕ). firm r a b x) firm_so ∙ firm_is r f a b open_so back_row;
     keeps_links = ap (λ (x : List ℕ). keeps x (with_link r a b)) firm_so ∙ firm_keeps r f a b open_so back_row;

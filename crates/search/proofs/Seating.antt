@@ -83,7 +83,7 @@ module _ (n e f top : ℕ) (ps ks : List ℕ) (id next slot seat : ℕ → ℕ) 
   free_out : (s : ℕ) → in_use slot seat held s ≡ false → has ks s ≡ false
   unfolding in_use
   free_out s h = false_from_ne_true _ (λ i.
-    let a = slot_was s i in both_ways _ h (and_from _ _ (lt-ltb s CARDS a.0) (and_from _ _ (R.seats_held (seat s) a.1) (eq-eqb _ _ a.2))))
+      let a = slot_was s i in both_ways _ h (and_from _ _ (lt-ltb s CARDS a.0) (and_from _ _ (R.seats_held (seat s) a.1) (eq-eqb _ _ a.2))))
 
   freed_again : Freed n f top seat' (in_use slot seat held)
   freed_again =

@@ -69,7 +69,7 @@ module _ (m : List ℕ) (c : Column) where
       let b = bit_within words w 1024 in
       let t = tops_within (tops - (w / 64 + 1)) (w / 64 + 1) in
       let g = given_holds (Within 1024) (Within 131072) (word_up m c w) None (λ v. next_bit m c 0 (v * 64)) (grind (arith, nat_tests)) tt
-        (λ v h. bit_within 0 (v * 64) 131072 (omega arith)) in
+      (λ v h. bit_within 0 (v * 64) 131072 (omega arith)) in
       grind (arith, nat_tests)
 
 gathered_writes : (f : ℕ) (m : List ℕ) (c : Column) (o : Option ℕ) (i : ℕ) → Writes (CHOSEN ∷ []) m (gathered f m c o i).memory
