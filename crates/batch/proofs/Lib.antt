@@ -89,7 +89,6 @@ pub mod CircleRenames
 pub mod AnewShown
 pub mod MakesAnew
 pub mod CardsIn
-pub mod Anys
 pub mod Denseness
 pub mod LinkByLink
 pub mod PackedMeans

@@ -5,7 +5,7 @@ use Rattle.order.specs.Lists.{any}
 use Rattle.order.specs.declared.board.Link.{Link}
 use Rattle.order.specs.Board.{Board}
 use Rattle.links.specs.Pairs.{joins}
-use Rattle.batch.proofs.Anys.{any_append}
+use Rattle.batch.proofs.Shuffling.{any_append}
 use Rattle.search.specs.Meaning.{Ready}
 use Rattle.keeper.specs.Meaning.{card_board}
 use Rattle.batch.specs.Several.{all_there, with_links, said_before}

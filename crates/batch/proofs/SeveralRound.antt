@@ -9,7 +9,7 @@ use Rattle.order.specs.Reordering.{link_refusal}
 use Rattle.order.proofs.Climbs.{fine_parts, link_before}
 use Rattle.order.proofs.Leading.{leads_before}
 use Rattle.order.proofs.Circles.{round_there}
-use Rattle.batch.proofs.Anys.{any_append}
+use Rattle.batch.proofs.Shuffling.{any_append}
 use Rattle.batch.specs.Several.{all_there, with_links, closes, circle, after_link}
 use Rattle.batch.specs.SeveralLaws.{SeveralRound}
 use Rattle.batch.proofs.OneLink.{can_link}

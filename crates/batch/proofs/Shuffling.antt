@@ -1,5 +1,5 @@
--- What the order of a list doesn't matter for: whether some of it, or each, passes a test; behind other elements too.
-use Rattle.std.proofs.Common.{◌≡◌, Bool, cond, not, ltb, List, [], ◌∷◌, ◌++◌, count_by, sym, refl, ap, ◌∙◌, arith}
+-- Whether some of a list, or each, passes a test: of a list behind another, and in any order.
+use Rattle.std.proofs.Common.{◌≡◌, Bool, cond, not, ◌||◌, ltb, List, [], ◌∷◌, ◌++◌, count_by, sym, refl, ap, ◌∙◌, arith}
 use Rattle.std.specs.List.Sorted.{IsPermutation}
 use Rattle.std.proofs.lemmas.List.Sums.{sum_by-cons}
 use Rattle.std.proofs.lemmas.List.Sorted.{sum_by-IsPermutation, IsPermutation-cons}
@@ -7,6 +7,11 @@ use Rattle.std.proofs.lemmas.Bool.Decides.{nat_tests}
 use Rattle.order.specs.Lists.{every, any}
 
 module _ {A : Type 0} (f : A → Bool) where
+  pub any_append : (xs ys : List A) → any f (xs ++ ys) ≡ (any f xs || any f ys)
+  unfolding any
+  any_append [] ys = refl
+  any_append (x ∷ xs) ys = let ih = any_append xs ys in grind arith
+
   pub any_count : (xs : List A) → any f xs ≡ ltb 0 (count_by f xs)
   unfolding any
   any_count [] = refl

@@ -7,7 +7,7 @@ use Rattle.order.specs.Lists.{every, any}
 use Rattle.order.specs.Board.{Board, ◌⟶◌, linked, leads, fine}
 use Rattle.order.specs.Reordering.{with_link, goes_round}
 use Rattle.links.specs.declared.layout.TheConstants.{ENTRIES}
-use Rattle.batch.proofs.Anys.{any_append}
+use Rattle.batch.proofs.Shuffling.{any_append}
 use Rattle.keeper.specs.Promise.{small_command}
 use Rattle.keeper.specs.Meaning.{Means}
 use Rattle.keeper.proofs.Knowing.{fine_cards}

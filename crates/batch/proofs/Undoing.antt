@@ -29,7 +29,7 @@ use Rattle.batch.proofs.Denseness.{few}
 use Rattle.batch.proofs.Tries.{means_fine}
 use Rattle.batch.proofs.SeveralBetween.{several_between}
 use Rattle.batch.proofs.Ends.{SameEnds, ends_within}
-use Rattle.batch.proofs.TriedFrames.{tried_columns, Trying, tried_writes, taken_out_writes}
+use Rattle.batch.proofs.TriedFrames.{tried_columns, Trying, tried_so, taken_out_writes}
 use Rattle.batch.proofs.TakingOut.{takes_out}
 use Rattle.batch.proofs.SeatedBack.{row_count, Aside, seated_back}
 
@@ -77,7 +77,7 @@ module _ (m : List ℕ) (r : Board) (ls ks : List Link) (s : Span) (row : List �
 
   -- what is written, while links are tried and taken out
   tried_frame : Trying m₁ m₃
-  tried_frame = after tried_columns table m₁ m₂ m₃ refl (taken_out_writes m₂ ks) (tried_writes m₁ ls 0)
+  tried_frame = after tried_columns table m₁ m₂ m₃ refl (taken_out_writes m₂ ks) (tried_so ⊥ m₁ ls 0 (λ z. absurd z)).wrote
 
   frame : Writes (SPARE ∷ tried_columns) m m₃
   frame =
