@@ -41,13 +41,11 @@ use Rattle.batch.specs.Own.{answer, own}
 use Rattle.batch.proofs.CardsThere.{finds_all}
 use Rattle.batch.proofs.Repeating.{repeats}
 use Rattle.batch.proofs.Spanning.{span_moves}
-use Rattle.batch.proofs.PackedMeans.{packed_long, packed_means, packed_row}
-use Rattle.batch.proofs.SavedMeans.{tries_saved}
+use Rattle.batch.proofs.ReadyAgain.{packed_long, packed_means, packed_row, tries_saved}
 use Rattle.batch.proofs.Undoing.{undoes_all, undoes_stopped, undoes_none}
 use Rattle.batch.proofs.SeveralBetween.{several_between}
-use Rattle.batch.proofs.SeveralKept.{several_kept}
-use Rattle.batch.proofs.SeveralSingle.{several_single}
-use Rattle.batch.proofs.SeveralRound.{several_round}
+use Rattle.batch.proofs.SeveralRows.{several_kept, several_single}
+use Rattle.batch.proofs.SeveralOrder.{several_round}
 use Rattle.batch.proofs.SayingSteps.{brought_full, brought_kept, brought_told, trial_done, trial_round}
 use Rattle.batch.proofs.Tries.{means_fine, tries}
 use Rattle.batch.proofs.SpanTold.{ToldSo, span_told}

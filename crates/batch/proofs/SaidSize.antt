@@ -1,5 +1,5 @@
 -- Several links said at once keep the size of the memory, whatever stands there, and what is answered fits what carries it.
-use Rattle.std.proofs.Common.{Ok, ◌≡◌, ℕ, ◌-◌, ◌^◌, ◌<◌, ◌≤◌, min, true, leb, List, [], ◌∷◌, length, take, Some, None, Option, arith}
+use Rattle.std.proofs.Common.{Ok, ◌≡◌, ℕ, ◌-◌, ◌^◌, ◌<◌, ◌≤◌, min, true, leb, List, [], ◌∷◌, length, take, Some, None, Option, arith, eqb}
 use Rattle.std.proofs.lemmas.Bool.{cond_both}
 use Rattle.order.specs.declared.board.TheConstants.{CARDS, LINKS}
 use Rattle.order.specs.declared.board.Link.{Link}
@@ -11,7 +11,7 @@ use Rattle.links.specs.Entries.{live}
 use Rattle.search.specs.Way.{way}
 use Rattle.keeper.specs.Sized.{KeepsSize}
 use Rattle.keeper.specs.Linking.{slots_found}
-use Rattle.keeper.proofs.Size.{size_same, size_then, size_writes}
+use Rattle.keeper.proofs.Size.{size_same, size_then, size_writes, cond_holds}
 use Rattle.keeper.proofs.OwnSize.{size_pending, Sized, sized_done, sized_refuses, sized_then, sized_cond, sized_shows, Any, sized_on}
 use Rattle.batch.specs.declared.layout.TheConstants.{BATCH}
 use Rattle.batch.specs.declared.seating.Span.{Span}
@@ -21,7 +21,7 @@ use Rattle.batch.specs.Saying.{noting, told_span, part_aside, undone, brought, b
 use Rattle.batch.specs.Seating.{reseated}
 use Rattle.memory.specs.Options.{given}
 use Rattle.memory.proofs.Options.{given_holds}
-use Rattle.keeper.specs.Answers.{quiet, ends}
+use Rattle.keeper.specs.Answers.{quiet, ends, Answer, pending}
 use Rattle.keeper.specs.declared.event.Act.TheVariants.{Done}
 use Rattle.batch.specs.declared.checking.Named.{Named}
 use Rattle.batch.proofs.Saving.{saved_writes}
@@ -29,6 +29,12 @@ use Rattle.batch.proofs.Writing.{reseated_writes}
 use Rattle.batch.proofs.SpanTold.{noting_writes}
 use Rattle.batch.specs.Promise.{small_link}
 use Rattle.batch.proofs.TriedFrames.{WayFits, way_then, tried_so, taken_out_writes}
+use Rattle.keeper.specs.declared.event.Event.TheVariants.{Said, Next}
+use Rattle.keeper.specs.Own.{answer as keeper_answer}
+use Rattle.keeper.proofs.Room.{Few, few_answer}
+use Rattle.batch.specs.Tidying.{tidied}
+use Rattle.batch.specs.Engine.{one, several, anew, Heard, said, next}
+use Rattle.batch.specs.Own.{said_anew, when_idle, answer}
 
 -- the part of the row that may change
 record Bounded (s : Span) : Type 0 where
@@ -117,3 +123,30 @@ sized_several m ls h =
     (sized_cond m (repeated m [] ls) _ _ (no Exists) (sized_then m p (size_writes _ m p (packed_writes m)) _ (sized_rearranged p ls h (span p ls) (bounded_span p ls))))
     (no Missing))
     (no Full)
+
+few_brought : (m : List ℕ) (ls : List Link) (o : Option Span) → Few (brought m ls o)
+unfolding brought keeper_answer
+few_brought m ls o =
+    cond_holds Few (leb (live m) LINKS) _ _ (given_holds Any Few o _ _ tt (omega arith) (λ s _. few_answer (noting m s) Next)) (omega arith)
+
+few_trial : (m : List ℕ) (t : Tried) (ls : List Link) (o : Option Span) → WayFits ⊥ m t.way → Few (by_trial t ls o)
+unfolding by_trial
+few_trial m t ls o w = given_holds (WayFits ⊥ m) Few t.way _ _ w (few_brought t.memory ls o) (λ ks h. h.0)
+
+few_several : (m : List ℕ) (ls : List Link) → Few (said_several m ls)
+unfolding said_several rearranged
+few_several m ls =
+    cond_holds Few (leb (length ls) BATCH) _ _
+    (cond_holds Few (all_found m ls) _ _
+    (cond_holds Few (repeated m [] ls) _ _ (omega arith) (few_trial _ _ ls _ (tried_so ⊥ _ ls 0 (λ z. absurd z)).fits)) (omega arith)) (omega arith)
+
+few_idle : (m : List ℕ) (a : Answer) → Few a → Few (when_idle m a)
+unfolding when_idle
+few_idle m a h = cond_holds Few (eqb (pending m) 0) a _ h (omega arith)
+
+pub few : (m : List ℕ) (h : Heard) → Few (answer m h)
+unfolding answer said_anew keeper_answer
+few m (said (one c)) = few_answer m (Said c)
+few m (said (several ls)) = few_idle m _ (few_several m ls)
+few m (said anew) = few_idle m _ (cond_holds Few (tidied m).all _ _ (few_answer _ Next) (omega arith))
+few m next = few_answer m Next

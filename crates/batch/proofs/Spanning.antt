@@ -19,7 +19,7 @@ use Rattle.batch.specs.Dense.{Dense}
 use Rattle.batch.specs.Several.{all_there, first_named, past_named}
 use Rattle.batch.specs.Checking.{widened, spanned, no_span, moving}
 use Rattle.batch.specs.CheckLaws.{Names, Spans, SpanMoves}
-use Rattle.batch.proofs.GoingOn.{there_parts}
+use Rattle.batch.proofs.SeveralRows.{there_parts}
 use Rattle.batch.proofs.CardsThere.{wider_so}
 
 past_inside : (r : Board) (ls : List Link) → all_there r ls ≡ true → past_named r ls ≤ length r.row

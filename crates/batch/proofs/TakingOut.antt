@@ -21,7 +21,7 @@ use Rattle.keeper.proofs.Unlinking.{removed_means}
 use Rattle.batch.specs.Several.{with_links}
 use Rattle.batch.specs.Joining.{dropped, taken_out}
 use Rattle.batch.specs.UndoLaws.{TakesOut}
-use Rattle.batch.proofs.Shuffling.{any_append}
+use Rattle.batch.proofs.SeveralOrder.{any_append}
 use Rattle.batch.proofs.Tries.{small_parts}
 
 -- a link that is there once, taken out of a list

@@ -27,8 +27,7 @@ use Rattle.batch.specs.UndoLaws.{put_aside, Covers, Undoes, UndoesNone}
 use Rattle.batch.proofs.Saving.{saves, saved_writes}
 use Rattle.batch.proofs.Denseness.{few}
 use Rattle.batch.proofs.Tries.{means_fine}
-use Rattle.batch.proofs.SeveralBetween.{several_between}
-use Rattle.batch.proofs.Ends.{SameEnds, ends_within}
+use Rattle.batch.proofs.SeveralBetween.{several_between, SameEnds, ends_within}
 use Rattle.batch.proofs.TriedFrames.{tried_columns, Trying, tried_so, taken_out_writes}
 use Rattle.batch.proofs.TakingOut.{takes_out}
 use Rattle.batch.proofs.SeatedBack.{row_count, Aside, seated_back}

@@ -3,7 +3,7 @@ ghost use Rattle.batch.specs.SeveralLaws.{SeveralCan, SeveralOne, SeveralRound, 
 ghost use Rattle.batch.specs.SeveralLaws.{SeveralKept, SeveralSingle, SeveralAnyOrder};
 
 // If no link goes round, there is a row that the links make.
-#[tactic(auto, using(crate::proofs::SeveralCan::several_can))]
+#[tactic(auto, using(crate::proofs::SeveralRows::several_can))]
 pub fn several_can_stands() -> u8
     ensures { SeveralCan }
 {
@@ -11,7 +11,7 @@ pub fn several_can_stands() -> u8
 }
 
 // And only one.
-#[tactic(auto, using(crate::proofs::SeveralOne::several_one))]
+#[tactic(auto, using(crate::proofs::SeveralRows::several_one))]
 pub fn several_one_stands() -> u8
     ensures { SeveralOne }
 {
@@ -19,7 +19,7 @@ pub fn several_one_stands() -> u8
 }
 
 // If one goes round, there is a circle of links, and no row keeps them all.
-#[tactic(auto, using(crate::proofs::SeveralRound::several_round))]
+#[tactic(auto, using(crate::proofs::SeveralOrder::several_round))]
 pub fn several_round_stands() -> u8
     ensures { SeveralRound }
 {
@@ -35,7 +35,7 @@ pub fn several_between_stands() -> u8
 }
 
 // If the row keeps the links already, it stays as it is.
-#[tactic(auto, using(crate::proofs::SeveralKept::several_kept))]
+#[tactic(auto, using(crate::proofs::SeveralRows::several_kept))]
 pub fn several_kept_stands() -> u8
     ensures { SeveralKept }
 {
