@@ -1,6 +1,5 @@
 pub mod Trying
-pub mod Repeating
-pub mod SayingSteps
+pub mod Spanning
 pub mod SaidSize
 pub mod Beginnings
 pub mod PlayedOn
@@ -14,11 +13,8 @@ pub mod AnewKept
 pub mod LinksKept
 pub mod PlayedRun
 pub mod Counted
-pub mod PlayedShown
 pub mod CardsThere
-pub mod Spanning
 pub mod Within
-pub mod OneLink
 pub mod SeveralRows
 pub mod SeveralBetween
 pub mod CircleLinks
@@ -56,10 +52,9 @@ pub mod TidySlots
 pub mod Tidies
 pub mod TidySize
 pub mod TriedFrames
-pub mod TakingOut
+pub mod Undoing
 pub mod SeatedBack
 pub mod ReadyAgain
-pub mod Undoing
 pub mod LoadSteps
 pub mod CircleSteps
 pub mod MakingSteps

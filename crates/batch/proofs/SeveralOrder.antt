@@ -16,8 +16,7 @@ use Rattle.order.proofs.Climbs.{fine_parts, link_before}
 use Rattle.order.proofs.Leading.{leads_before}
 use Rattle.order.proofs.Circles.{round_there}
 use Rattle.batch.specs.SeveralLaws.{SeveralRound, SeveralAnyOrder}
-use Rattle.batch.proofs.OneLink.{can_link}
-use Rattle.batch.proofs.SeveralRows.{there_parts, first_open, goes_on, several_can}
+use Rattle.batch.proofs.SeveralRows.{can_link, there_parts, first_open, goes_on, several_can}
 use Rattle.batch.proofs.CircleLinks.{circle_more, round_closed, never_kept}
 
 module _ {A : Type 0} (f : A → Bool) where

@@ -10,7 +10,7 @@ pub fn finds_all_stands() -> u8
 }
 
 // A link is repeated just if it was said before.
-#[tactic(auto, using(crate::proofs::Repeating::repeats))]
+#[tactic(auto, using(crate::proofs::Spanning::repeats))]
 pub fn repeats_stands() -> u8
     ensures { Repeats }
 {

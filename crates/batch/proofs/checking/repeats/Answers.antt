@@ -2,7 +2,7 @@ use Rattle.std.proofs.Common.{◌∙◌, rules, tests}
 use Rattle.std.proofs.lemmas.Iterator.{YieldsList-from_slice}
 use Rattle.std.proofs.lemmas.Iterator.Consumers.{YieldsList-from_enumerate}
 use Rattle.std.proofs.lemmas.Iterator.Search.{any_from_yields_List}
-use Rattle.batch.proofs.Repeating.{seen, finds_repeats}
+use Rattle.batch.proofs.Spanning.{seen, finds_repeats}
 use Rattle.batch.proofs.checking.repeats.Goals as goal
 
 pub returns : goal.returns
