@@ -22,7 +22,7 @@ use Rattle.batch.specs.declared.layout.TheConstants.{SPARE}
 use Rattle.batch.specs.Renewing.{drawn, Renewed, renewing}
 use Rattle.batch.specs.Rule.{waits, first_free, without, by_rule}
 use Rattle.batch.proofs.Many.{many_any}
-use Rattle.batch.proofs.RenewFrames.{own}
+use Rattle.batch.proofs.Writing.{own}
 use Rattle.batch.proofs.Denseness.{row_is, row_once}
 use Rattle.batch.proofs.Freeing.{Tidy}
 use Rattle.batch.proofs.Lefts.{first_by_place}

@@ -158,8 +158,8 @@ module _ (m : List ℕ) (long : LEAVES.base + LEAVES.size ≤ length m) (T : IsT
   unfolding cleared
   zeros s h =
       let k = wiped CARDS m WAITS 0 in
-      let w = wiped_writes m WAITS CARDS m 0 (same (WAITS ∷ []) m) in (
-        (wiped_writes k LEAVES CARDS k 0 (same (LEAVES ∷ []) k)).others WAITS s refl
+      let w = wiped_writes WAITS CARDS m 0 in (
+        (wiped_writes LEAVES CARDS k 0).others WAITS s refl
             ∙ wiped_in CARDS m WAITS 0 s (omega (arith, long)) (omega arith) (omega arith) h,
         wiped_in CARDS k LEAVES 0 s (omega (arith, long, w.as_long)) (omega arith) (omega arith) h,
       )

@@ -47,13 +47,13 @@ module _ (m : List ℕ) (n : ℕ) where
 
   pub flags_writes : Writes flagging m flags
   flags_writes =
-      on flagging m (wiped CARDS m LEAVES 0) flags (wiped_writes m LEAVES CARDS m 0 (same flagging m)) (flagged_writes n (wiped CARDS m LEAVES 0) 0)
+      on flagging m (wiped CARDS m LEAVES 0) flags (wiped_writes LEAVES CARDS m 0) (flagged_writes n (wiped CARDS m LEAVES 0) 0)
 
   pub stays_is : LEAVES.base + LEAVES.size ≤ length m → (s : ℕ) → s < CARDS → stays flags s ≡ not (has (new_row m n) s)
   unfolding stays
   stays_is l s h =
       let m₁ = wiped CARDS m LEAVES 0 in
-      let b = wiped_writes m LEAVES CARDS m 0 (same flagging m) in
+      let b = wiped_writes LEAVES CARDS m 0 in
       let z = wiped_in CARDS m LEAVES 0 s l (omega arith) (omega arith) h in
       let e = made_same (cell m₁ SPARE) (cell m SPARE) 0 n (λ p x y. b.others SPARE p refl) in
       rw (lt-ltb s CARDS h, flagged_is n m₁ 0 s (omega (arith, b.as_long)) h, z) (ap (λ (ks : List ℕ). not (has ks s) && true) e ∙ (grind arith))

@@ -23,8 +23,7 @@ use Rattle.batch.specs.Dense.{Dense}
 use Rattle.batch.specs.Renewing.{freed, freed_all, frees, lessened}
 use Rattle.batch.specs.RuleLaws.{within_row}
 use Rattle.batch.proofs.Denseness.{few, slot_at, used_place, used_below}
-use Rattle.batch.proofs.Writing.{marking, freed_writes, lessening, lessened_writes}
-use Rattle.batch.proofs.RenewFrames.{own}
+use Rattle.batch.proofs.Writing.{marking, freed_writes, lessening, lessened_writes, own}
 
 -- the same marks stand in the same cells
 pub marks_alone : (n k : List ℕ) → length k ≡ length n → ((i : ℕ) → cell k FORE.column i ≡ cell n FORE.column i) → Summed n FORE.column →

@@ -20,8 +20,8 @@ use Rattle.batch.specs.Arranging.{filled, card_at, slot_of, slot_at, ordered, lo
 use Rattle.batch.specs.ArrangeLaws.{InOrder, Arranges}
 use Rattle.batch.proofs.Filling.{filled_are}
 use Rattle.batch.proofs.LookUps.{found_alike}
-use Rattle.batch.proofs.ColumnSorted.{cells_sorted}
-use Rattle.batch.proofs.ArrangeFrames.{listed_writes, ordered_writes, looked_up_writes, arranged_writes}
+use Rattle.batch.proofs.PartSorted.{cells_sorted}
+use Rattle.batch.proofs.Writing.{listed_writes, ordered_writes, looked_up_writes, arranged_writes}
 use Rattle.batch.proofs.Denseness.{dense_packed, few, cards_are, same_count, same_row, same_cards, same_used, dense_kept}
 use Rattle.batch.proofs.SlotsOf.{order_cards, order_once, order_same}
 use Rattle.batch.proofs.WholeRow.{RowSeated, cards_by, row_seated}

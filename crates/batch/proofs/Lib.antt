@@ -47,7 +47,6 @@ pub mod Saving
 pub mod Reseating
 pub mod SaidSize
 pub mod RenewSteps
-pub mod RenewFrames
 pub mod Many
 pub mod Counting
 pub mod Freeing
@@ -60,14 +59,11 @@ pub mod MadeAnew
 pub mod PlaceByPlace
 pub mod Filling
 pub mod LookUps
-pub mod ColumnSorted
-pub mod ArrangeFrames
 pub mod SlotsOf
 pub mod WholeRow
 pub mod InOrder
 pub mod TidySlots
 pub mod Tidies
-pub mod TidySize
 pub mod TriedFrames
 pub mod TakingOut
 pub mod SlotsBack

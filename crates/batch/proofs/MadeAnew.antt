@@ -29,8 +29,7 @@ use Rattle.batch.specs.RuleLaws.{within_row}
 use Rattle.batch.specs.RenewLaws.{MadeAnew, Renews}
 use Rattle.batch.proofs.Many.{many, many_within}
 use Rattle.batch.proofs.Denseness.{dense_packed, few, length_row, slot_used, used_below, has_slot, row_in, same_row, same_cards, same_used, dense_kept}
-use Rattle.batch.proofs.Writing.{counting, freed_all_writes}
-use Rattle.batch.proofs.RenewFrames.{own, renewed_writes}
+use Rattle.batch.proofs.Writing.{counting, freed_all_writes, own, renewed_writes}
 use Rattle.batch.proofs.Counting.{to_it, Counted, counts_so}
 use Rattle.batch.proofs.Freeing.{Tidy, Waiting, waiting_same, marks_alone, frees_all}
 use Rattle.batch.proofs.Lefts.{part_whole}

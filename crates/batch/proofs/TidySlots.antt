@@ -35,7 +35,7 @@ use Rattle.batch.proofs.Denseness.{length_row, has_slot, row_used, row_once}
 use Rattle.batch.proofs.Freeing.{marks_alone}
 use Rattle.batch.proofs.MadeAnew.{renews}
 use Rattle.batch.proofs.InOrder.{arranges}
-use Rattle.batch.proofs.TidySize.{renewed_then}
+use Rattle.batch.proofs.Writing.{renewed_then}
 use Rattle.batch.proofs.WholeRow.{RowSeated, cards_by, row_seated}
 
 -- what is so of both ends of each link, by what is so of each slot

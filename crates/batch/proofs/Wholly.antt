@@ -21,7 +21,7 @@ use Rattle.batch.specs.Promise.{small_saying, small_heard, Steady, WholeIn, Fits
 use Rattle.batch.specs.Own.{whole_row, said_anew, when_idle, answer, guarded, own}
 use Rattle.batch.proofs.SpanTold.{noting_writes}
 use Rattle.batch.proofs.SaidSize.{sized_several}
-use Rattle.batch.proofs.TidySize.{tidies_only}
+use Rattle.batch.proofs.Writing.{tidies_only}
 use Rattle.batch.proofs.Simulation.{Kept, whole_in}
 use Rattle.batch.proofs.OneKept.{command_kept}
 use Rattle.batch.proofs.AnewKept.{anew_kept}
