@@ -40,7 +40,7 @@ module _ (m : List ℕ) (T : Tidy m) where
   -- the first mark is at the first card that doesn't wait
   module _ (left n : List ℕ) (D : Drawing m T left n) where
     left_once : distinct left ≡ true
-    left_once = ap distinct D.part ∙ distinct_filter (has left) (row_of m) (row_once m T.dense)
+    left_once = ap distinct D.part ∙ distinct_filter (has left) (row_of m) (row_once m T.dense.is_row)
 
     least : Least (marked n FORE.column) (first_mark n FORE.column)
     least = first_of_all n FORE.column D.waiting.summed

@@ -14,7 +14,7 @@ use Rattle.batch.specs.declared.layout.TheConstants.{SPARE, LEAVES}
 use Rattle.batch.specs.Circling.{flagged, stays, first_left}
 use Rattle.batch.specs.MakingAnew.{new_row}
 use Rattle.memory.specs.Footprints.{Writes, at_each}
-use Rattle.memory.proofs.Footprints.{same, on, put_one, each}
+use Rattle.memory.proofs.Footprints.{on, put_one, each}
 use Rattle.batch.proofs.Counting.{wiped_in}
 use Rattle.batch.proofs.Writing.{wiped_writes}
 

@@ -22,9 +22,9 @@ use Rattle.batch.proofs.Filling.{filled_are}
 use Rattle.batch.proofs.LookUps.{found_alike}
 use Rattle.batch.proofs.PartSorted.{cells_sorted}
 use Rattle.batch.proofs.Writing.{listed_writes, ordered_writes, looked_up_writes, arranged_writes}
-use Rattle.batch.proofs.Denseness.{dense_packed, few, cards_are, same_count, same_row, same_cards, same_used, dense_kept}
+use Rattle.batch.proofs.Denseness.{dense_packed, few, row_is, same_count, same_row, same_cards, same_used, dense_kept}
 use Rattle.batch.proofs.SlotsOf.{order_cards, order_once, order_same}
-use Rattle.batch.proofs.WholeRow.{RowSeated, cards_by, row_seated}
+use Rattle.batch.proofs.Reseating.{RowSeated, cards_by, row_seated}
 
 -- the numbers and the slots don't depend on the columns to which they are written
 card_apart : (m : List ℕ) (i p k : ℕ) → card_at (written m NUMBERS i k) p ≡ card_at m p
@@ -78,7 +78,7 @@ module _ (m₀ : List ℕ) (long : NUMBERS.base + NUMBERS.size ≤ length m₀) 
   numbers_are =
       cells_sorted NUMBERS n (few m D) (filled card_at NUMBERS n m 0) (omega (arith, long₁, (listed_writes m n (few m D)).as_long))
       ∙ ap sorted (filled_are card_at NUMBERS card_apart n m long₁ (few m D) ∙ sym (map-map (cell m IDS) (cell m SLOTS) (range_with_len 0 n))
-      ∙ sym (cards_are m D) ∙ sym (same_cards (NUMBERS ∷ []) m m₁ refl o))
+      ∙ ap (map (cell m IDS)) (sym (row_is m D)) ∙ sym (same_cards (NUMBERS ∷ []) m m₁ refl o))
 
   slots_are : map (cell m₂ SPARE) (range_with_len 0 n) ≡ map (slot_of m₁) (sorted (cards m₁))
   unfolding slot_at

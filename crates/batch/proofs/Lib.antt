@@ -60,7 +60,6 @@ pub mod PlaceByPlace
 pub mod Filling
 pub mod LookUps
 pub mod SlotsOf
-pub mod WholeRow
 pub mod InOrder
 pub mod TidySlots
 pub mod Tidies
@@ -90,5 +89,4 @@ pub mod Denseness
 pub mod LinkByLink
 pub mod PackedMeans
 pub mod ReadyAgain
-pub mod SeatsMoved
 pub mod Writing

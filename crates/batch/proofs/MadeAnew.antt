@@ -17,6 +17,7 @@ use Rattle.row.specs.Moves.{packed}
 use Rattle.row.specs.Laws.{Packed}
 use Rattle.row.proofs.Again.{packs}
 use Rattle.row.proofs.Framing.{packed_writes}
+use Rattle.row.proofs.Named.{used_below, has_used, has_slot, length_slots}
 use Rattle.links.specs.Table.{edges, IsTable}
 use Rattle.links.proofs.Keeping.{table_kept, edges_kept}
 use Rattle.search.specs.declared.layout.TheConstants.{FORE}
@@ -28,7 +29,7 @@ use Rattle.batch.specs.Rule.{anew}
 use Rattle.batch.specs.RuleLaws.{within_row}
 use Rattle.batch.specs.RenewLaws.{MadeAnew, Renews}
 use Rattle.batch.proofs.Many.{many, many_within}
-use Rattle.batch.proofs.Denseness.{dense_packed, few, length_row, slot_used, used_below, has_slot, row_in, same_row, same_cards, same_used, dense_kept}
+use Rattle.batch.proofs.Denseness.{dense_packed, few, slot_used, same_row, same_cards, same_used, dense_kept}
 use Rattle.batch.proofs.Writing.{counting, freed_all_writes, own, renewed_writes}
 use Rattle.batch.proofs.Counting.{to_it, Counted, counts_so}
 use Rattle.batch.proofs.Freeing.{Tidy, Waiting, waiting_same, marks_alone, frees_all}
@@ -90,7 +91,7 @@ module _ (m : List ℕ) (long : LEAVES.base + LEAVES.size ≤ length m) (S : IsR
   -- and marked what waits for none
   everywhere : (p : ℕ) → ltb p (count m₁) ≡ where_left m₁ tidy row p
   everywhere p = elim (cases_lt p (count m₁)) [
-    | inl l ↦ rw (lt-ltb p (count m₁) l) (sym (has_slot m₁ tidy.dense (slot_on m₁ p) (slot_used m₁ tidy.dense p l)))
+    | inl l ↦ rw (lt-ltb p (count m₁) l) (sym (has_slot m₁ tidy.dense.is_row (slot_on m₁ p) (slot_used m₁ tidy.dense p l)))
     | inr l ↦ rw (le-ltb p (count m₁) l)
   ]
 
@@ -101,14 +102,14 @@ module _ (m : List ℕ) (long : LEAVES.base + LEAVES.size ≤ length m) (S : IsR
         waiting_same m₁ tidy (λ p. ltb p (count m₁)) (where_left m₁ tidy row) (into m₁ tidy row) (into m₁ tidy row) (frees n) everywhere (λ s. refl)
         (frees_all m₁ tidy (into m₁ tidy row) n waiting);
     leaves_are = λ s h.
-        (freed_all_writes (min (count n) CARDS) n 0).others LEAVES s refl ∙ counted.outs s (used_below m₁ tidy.dense s (row_in m₁ tidy.dense s h));
+        (freed_all_writes (min (count n) CARDS) n 0).others LEAVES s refl ∙ counted.outs s (used_below m₁ tidy.dense.is_row s (sym (has_used m₁ tidy.dense.is_row s) ∙ h));
     part = part_whole row;
     ahead = λ a b j h. (and_parts (has row a) (has row b) (every_at (λ a b. has row a && has row b) (edges m₁) a b tidy.within j)).1;
   }
 
   -- all come
   as_long : length row ≡ count m₁
-  as_long = length_row m₁ tidy.dense
+  as_long = length_slots m₁ tidy.dense.is_row
 
   renewed_is : renewing (length row) (prepared m) 0 ≡ renewed m
   unfolding renewed drawn_all

@@ -5,13 +5,13 @@ use Rattle.order.specs.Lists.{every, has, distinct}
 use Rattle.memory.specs.Columns.{cell}
 use Rattle.row.specs.declared.layout.TheConstants.{IDS}
 use Rattle.row.specs.Meaning.{row_of, cards, used}
+use Rattle.row.proofs.Named.{row_used}
 use Rattle.order.proofs.Filters.{every_has}
 use Rattle.order.proofs.RenamesLists.{has_map, distinct_map}
-use Rattle.row.proofs.Present.{finds}
+use Rattle.row.proofs.Present.{apart, finds}
 use Rattle.batch.specs.Rule.{sorted}
 use Rattle.batch.specs.Arranging.{slot_of}
 use Rattle.batch.specs.Dense.{Dense}
-use Rattle.batch.proofs.Denseness.{row_used, cards_once}
 use Rattle.batch.proofs.Within.{every_in}
 use Rattle.batch.proofs.Sorts.{has_sorted, distinct_sorted}
 
@@ -58,9 +58,9 @@ module _ (m : List ℕ) (D : Dense m) where
   pub order_once : distinct in_order ≡ true
   order_once =
       sym (distinct_map (cell m IDS) (used m) D.is_row.stands.one_slot in_order (slots_used (sorted (cards m)) all_cards))
-      ∙ ap distinct order_cards ∙ distinct_sorted (cards m) ∙ cards_once m D
+      ∙ ap distinct order_cards ∙ distinct_sorted (cards m) ∙ apart m D.is_row
 
   pub order_same : (s : ℕ) → has in_order s ≡ has (row_of m) s
   order_same =
-      has_by_names (cell m IDS) (used m) D.is_row.stands.one_slot in_order (row_of m) (slots_used (sorted (cards m)) all_cards) (row_used m D)
+      has_by_names (cell m IDS) (used m) D.is_row.stands.one_slot in_order (row_of m) (slots_used (sorted (cards m)) all_cards) (row_used m D.is_row)
       (λ k. ap (λ (xs : List ℕ). has xs k) order_cards ∙ has_sorted (cards m) k)

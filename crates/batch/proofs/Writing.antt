@@ -12,16 +12,16 @@ use Rattle.memory.proofs.Footprints.{same, on, less, after, put, put_one, either
 use Rattle.memory.proofs.Options.{given_holds}
 use Rattle.row.specs.declared.layout.TheConstants.{IDS, SLOTS, SEATS}
 use Rattle.row.specs.Meaning.{count}
-use Rattle.row.specs.Moves.{put_at, packed}
+use Rattle.row.specs.Moves.{packed}
 use Rattle.row.proofs.Framing.{packed_writes}
 use Rattle.links.specs.declared.layout.TheConstants.{ENTRIES, OUT, AGE, ALL}
 use Rattle.search.specs.declared.layout.TheConstants.{FORE}
 use Rattle.keeper.proofs.Size.{size_writes}
 use Rattle.batch.specs.declared.layout.TheConstants.{SPARE, WAITS, LEAVES, NUMBERS}
-use Rattle.batch.specs.Columns.{seated, packing, renewing as renewing_columns, arranging, tidying}
+use Rattle.batch.specs.Columns.{seated, renewing as renewing_columns, arranging, tidying}
 use Rattle.batch.specs.Seating.{reseated}
 use Rattle.batch.specs.Arranging.{filled, card_at, slot_at, ordered, looked_up, arranged_by, arranged}
-use Rattle.batch.specs.Renewing.{raised, counted, counts, cleared, freed, freed_all, prepared, lessened, released, let_go, drawn, Renewed, renewing, drawn_all, renewed}
+use Rattle.batch.specs.Renewing.{raised, counted, counts, cleared, freed, freed_all, prepared, lessened, let_go, drawn, Renewed, renewing, drawn_all, renewed}
 use Rattle.batch.specs.Tidying.{Tidied, tidied}
 use Rattle.batch.specs.TidyLaws.{TidiesOnly}
 use Rattle.batch.proofs.Filling.{filled_writes}
