@@ -83,7 +83,6 @@ pub mod LinksIn
 pub mod CircleRenames
 pub mod AnewShown
 pub mod MakesAnew
-pub mod CardsIn
 pub mod Anys
 pub mod Denseness
 pub mod LinkByLink
