@@ -1,5 +1,5 @@
--- A packed row: what stands at each of the first seats; and what is written beside a row leaves it.
-use Rattle.std.proofs.Common.{◌≡◌, ℕ, ◌-◌, ◌<◌, ◌≤◌, min, true, ltb, List, map, sym, ap, ◌∙◌, inl, inr, arith}
+-- A packed row: what stands at each of the first seats; and it stays packed where nothing is written to it.
+use Rattle.std.proofs.Common.{◌≡◌, ℕ, ◌-◌, ◌<◌, ◌≤◌, true, ltb, List, map, sym, ap, ◌∙◌, inl, inr, arith}
 use Rattle.std.specs.List.{range_with_len}
 use Rattle.std.proofs.lemmas.Bool.{cases_eq, lt-ltb, le-ltb, ltb-true}
 use Rattle.order.specs.declared.board.TheConstants.{CARDS}
@@ -7,13 +7,13 @@ use Rattle.order.specs.Lists.{place, distinct}
 use Rattle.order.proofs.RenamesLists.{distinct_map}
 use Rattle.memory.specs.declared.column.Column.{Column}
 use Rattle.memory.specs.Columns.{cell}
-use Rattle.memory.specs.Footprints.{clear_all, Writes, View, view}
-use Rattle.memory.proofs.Footprints.{view_same, kept}
-use Rattle.row.specs.declared.layout.TheConstants.{SEATS_MOST, COUNT, ENDING, IDS, SLOTS, SEATS, TAKEN}
+use Rattle.memory.specs.Footprints.{clear_all, Writes}
+use Rattle.row.specs.declared.layout.TheConstants.{IDS, SLOTS, SEATS}
 use Rattle.row.specs.Columns.{columns}
-use Rattle.row.specs.Meaning.{bit_set, listed, in_use, count, ending, taken, row_of, cards, used, RowIn, IsRow}
+use Rattle.row.specs.Meaning.{count, ending, taken, row_of, used, IsRow}
 use Rattle.row.specs.Laws.{Packed}
 use Rattle.row.proofs.Along.{gap_to, listed_all, amount_all}
+use Rattle.row.proofs.Depending.{depends}
 use Rattle.row.proofs.Named.{one_slot, used_seat, row_used, place_slot as place_ranked}
 use Rattle.row.proofs.Present.{slot_used as at_seat, few_cards, apart}
 use Rattle.batch.specs.Dense.{Dense}
@@ -59,28 +59,7 @@ module _ (m : List ℕ) (D : Dense m) where
   pub place_slot : (s : ℕ) → used m s ≡ true → place (row_of m) s ≡ cell m SEATS s
   place_slot s u = place_ranked m D.is_row s u ∙ amount_all (taken m) (cell m SEATS s) (λ p l. held p (omega (arith, (used_place s u).0)))
 
--- what is written beside the row leaves it
-module _ (fs : List Column) (m m' : List ℕ) (c : clear_all fs columns ≡ true) (w : Writes fs m m') where
-  same_value : {X : Type 0} (f : View → X) → f (view columns m') ≡ f (view columns m)
-  same_value f = ap f (view_same fs columns c m m' w)
-
-  pub same_count : count m' ≡ count m
-  same_count = same_value (λ v. v.at COUNT 0)
-
-  pub same_row : row_of m' ≡ row_of m
-  same_row = same_value (λ v. listed (v.at SLOTS) (bit_set (v.at TAKEN)) (min (v.at ENDING 0) SEATS_MOST))
-
-  pub same_cards : cards m' ≡ cards m
-  same_cards = same_value (λ v. map (v.at IDS) (listed (v.at SLOTS) (bit_set (v.at TAKEN)) (min (v.at ENDING 0) SEATS_MOST)))
-
-  pub same_used : (s : ℕ) → used m' s ≡ used m s
-  same_used s = same_value (λ v. in_use (v.at SLOTS) (v.at SEATS) (bit_set (v.at TAKEN)) s)
-
-  pub row_kept : IsRow m → IsRow m'
-  row_kept = kept fs columns c m m' w RowIn
-
-  pub dense_kept : Dense m → Dense m'
-  dense_kept D = record {
-    is_row = row_kept D.is_row;
-    full = λ p. same_value (λ v. bit_set (v.at TAKEN) p) ∙ D.full p ∙ ap (ltb p) (sym same_count);
-  }
+pub dense_kept : (fs : List Column) (m m' : List ℕ) → clear_all fs columns ≡ true → Writes fs m m' → Dense m → Dense m'
+dense_kept fs m m' c w D =
+    let s = depends fs m m' c w in
+    record { is_row = s.is_row D.is_row; full = λ p. s.same_taken p ∙ D.full p ∙ ap (ltb p) (sym s.same_count) }

@@ -15,8 +15,7 @@ use Rattle.batch.specs.Circling.{flagged, stays, first_left}
 use Rattle.batch.specs.MakingAnew.{new_row}
 use Rattle.memory.specs.Footprints.{Writes, at_each}
 use Rattle.memory.proofs.Footprints.{on, put_one, each}
-use Rattle.batch.proofs.Counting.{wiped_in}
-use Rattle.batch.proofs.Writing.{wiped_writes}
+use Rattle.batch.proofs.Saving.{wiped_writes, wiped_in}
 
 abbrev pub flagging : List Column
 flagging = LEAVES ∷ []
@@ -54,7 +53,7 @@ module _ (m : List ℕ) (n : ℕ) where
   stays_is l s h =
       let m₁ = wiped CARDS m LEAVES 0 in
       let b = wiped_writes LEAVES CARDS m 0 in
-      let z = wiped_in CARDS m LEAVES 0 s l (omega arith) (omega arith) h in
+      let z = wiped_in LEAVES CARDS m s l h (omega arith) in
       let e = made_same (cell m₁ SPARE) (cell m SPARE) 0 n (λ p x y. b.others SPARE p refl) in
       rw (lt-ltb s CARDS h, flagged_is n m₁ 0 s (omega (arith, b.as_long)) h, z) (ap (λ (ks : List ℕ). not (has ks s) && true) e ∙ (grind arith))
 

@@ -57,9 +57,7 @@ pub mod Drawing
 pub mod AllCome
 pub mod MadeAnew
 pub mod PlaceByPlace
-pub mod Filling
 pub mod LookUps
-pub mod SlotsOf
 pub mod InOrder
 pub mod TidySlots
 pub mod Tidies

@@ -16,6 +16,7 @@ use Rattle.row.specs.Meaning.{row_of, count, IsRow}
 use Rattle.row.specs.Moves.{packed}
 use Rattle.row.specs.Laws.{Packed}
 use Rattle.row.proofs.Again.{packs}
+use Rattle.row.proofs.Depending.{depends}
 use Rattle.row.proofs.Framing.{packed_writes}
 use Rattle.row.proofs.Named.{used_below, has_used, has_slot, length_slots}
 use Rattle.links.specs.Table.{edges, IsTable}
@@ -29,7 +30,7 @@ use Rattle.batch.specs.Rule.{anew}
 use Rattle.batch.specs.RuleLaws.{within_row}
 use Rattle.batch.specs.RenewLaws.{MadeAnew, Renews}
 use Rattle.batch.proofs.Many.{many, many_within}
-use Rattle.batch.proofs.Denseness.{dense_packed, few, slot_used, same_row, same_cards, same_used, dense_kept}
+use Rattle.batch.proofs.Denseness.{dense_packed, few, slot_used, dense_kept}
 use Rattle.batch.proofs.Writing.{counting, freed_all_writes, own, renewed_writes}
 use Rattle.batch.proofs.Counting.{to_it, Counted, counts_so}
 use Rattle.batch.proofs.Freeing.{Tidy, Waiting, waiting_same, marks_alone, frees_all}
@@ -131,14 +132,15 @@ module _ (m : List ℕ) (long : LEAVES.base + LEAVES.size ≤ length m) (S : IsR
   pub made_anew : MadeAnew m m' (renewed m).came
   made_anew =
       let w = came.writes in
+      let s = depends own m₁ m' refl w in
       let many_came : (renewed m).came ≡ length (anew (edges m₁) row) = omega (arith, came.as_many) in
       record {
         wrote = renewed_writes m;
         dense = dense_kept own m₁ m' refl w tidy.dense;
         is_table = table_kept own refl m₁ m' w tidy.is_table;
-        same_row = same_row own m₁ m' refl w ∙ P.same_row;
-        same_cards = same_cards own m₁ m' refl w ∙ P.same_cards;
-        same_used = λ s. same_used own m₁ m' refl w s ∙ P.same_used s;
+        same_row = s.same_row ∙ P.same_row;
+        same_cards = s.same_cards ∙ P.same_cards;
+        same_used = λ t. s.same_used t ∙ P.same_used t;
         same_edges = edges_kept own refl m₁ m' w ∙ edges₁;
         fore_summed = came.summed;
         fore_none = came.none;

@@ -3,7 +3,7 @@ use Rattle.std.proofs.Common.{◌≡◌, ℕ, zero, suc, ◌+◌, ◌-◌, ◌/�
 use Rattle.std.proofs.lemmas.Bool.{cond_both}
 use Rattle.order.specs.declared.board.TheConstants.{CARDS}
 use Rattle.memory.specs.declared.column.Column.{Column}
-use Rattle.memory.specs.Columns.{cell, written, wiped}
+use Rattle.memory.specs.Columns.{cell, written}
 use Rattle.memory.specs.Footprints.{Small, Writes, at_each}
 use Rattle.memory.specs.PlaceSets.{first_mark}
 use Rattle.memory.proofs.Alone.{writes_added, writes_removed}
@@ -24,7 +24,7 @@ use Rattle.batch.specs.Arranging.{filled, card_at, slot_at, ordered, looked_up, 
 use Rattle.batch.specs.Renewing.{raised, counted, counts, cleared, freed, freed_all, prepared, lessened, let_go, drawn, Renewed, renewing, drawn_all, renewed}
 use Rattle.batch.specs.Tidying.{Tidied, tidied}
 use Rattle.batch.specs.TidyLaws.{TidiesOnly}
-use Rattle.batch.proofs.Filling.{filled_writes}
+use Rattle.batch.proofs.Saving.{filled_writes, wiped_writes}
 use Rattle.batch.proofs.LinkByLink.{along_writes}
 use Rattle.batch.proofs.LookUps.{found_below}
 use Rattle.batch.proofs.PartSorted.{sorted_writes}
@@ -43,11 +43,6 @@ lessening = FORE.column ∷ WAITS ∷ []
 -- what is written once the row is packed
 abbrev pub own : List Column
 own = FORE.column ∷ SPARE ∷ WAITS ∷ LEAVES ∷ []
-
-pub wiped_writes : (c : Column) (f : ℕ) (m : List ℕ) (i : ℕ) → Writes (c ∷ []) m (wiped f m c i)
-unfolding wiped
-wiped_writes c zero m i = same _ m
-wiped_writes c (suc f) m i = on _ m _ _ (put_one m c i 0 (λ _. omega arith)) (wiped_writes c f _ (i + 1))
 
 module _ (m : List ℕ) where
   pub raised_writes : (c : Column) (s : ℕ) → Writes (c ∷ []) m (raised m c s)
