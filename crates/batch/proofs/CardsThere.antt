@@ -5,8 +5,6 @@ use Rattle.order.specs.Lists.{has, place}
 use Rattle.order.specs.Board.{Board, ◌⟶◌, linked}
 use Rattle.memory.specs.Columns.{cell}
 use Rattle.row.specs.declared.layout.TheConstants.{SEATS}
-use Rattle.row.specs.Lookup.{found}
-use Rattle.row.specs.Meaning.{cards}
 use Rattle.links.proofs.Operating.{finds as finds_entry}
 use Rattle.search.specs.Meaning.{Ready}
 use Rattle.keeper.specs.Meaning.{card_board}

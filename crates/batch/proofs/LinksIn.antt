@@ -240,11 +240,14 @@ links_in m row ls B =
     elim (cases_Bool (every (λ l. has row l.from && has row l.to) ls)) [
       | inl t ↦ elim (cases_lt LINKS (length ls)) [
         | inl h ↦ rw (e, t, lt-leb (length ls) LINKS h) (refl, λ z. cc)
-        | inr h ↦ rw (e, t, le-leb (length ls) LINKS h) (refl, λ _. put_in_all ls [] m row (record {
-          fresh = F.0;
-          links_are = ap (map (named (cell m IDS))) F.1;
-          ends = ap (every (λ (l : Link). used m l.from && used m l.to)) F.1;
-        }) t (omega arith))
+        | inr h ↦ rw (e, t, le-leb (length ls) LINKS h) (
+          refl,
+          λ _. put_in_all ls [] m row (record {
+            fresh = F.0;
+            links_are = ap (map (named (cell m IDS))) F.1;
+            ends = ap (every (λ (l : Link). used m l.from && used m l.to)) F.1;
+          }) t (omega arith),
+        )
       ]
       | inr t ↦ rw (e, t) (refl, λ z. cc)
     ]

@@ -10,7 +10,7 @@ use Rattle.order.specs.Reordering.{number}
 use Rattle.keeper.specs.declared.layout.TheConstants.{MORE_TO}
 use Rattle.keeper.specs.declared.event.Event.TheVariants.{Said, Next}
 use Rattle.keeper.specs.declared.event.Act.TheVariants.{Shows, Done}
-use Rattle.keeper.specs.Engine.{done, refused, action_of, ran, one_act, runs as keeper_runs, run_of as keeper_run_of}
+use Rattle.keeper.specs.Engine.{action_of, ran, one_act, runs as keeper_runs, run_of as keeper_run_of}
 use Rattle.keeper.specs.Answers.{Answer, quiet, ends, refuses, pending, leaves_pending}
 use Rattle.keeper.specs.Sized.{small_event, guarded as keeper_guarded}
 use Rattle.keeper.specs.Own.{own as keeper_own}

@@ -8,7 +8,6 @@ use Rattle.order.specs.Lists.{every}
 use Rattle.row.specs.Moves.{packed}
 use Rattle.row.proofs.Framing.{packed_writes}
 use Rattle.links.specs.Entries.{live}
-use Rattle.search.specs.Way.{way}
 use Rattle.keeper.specs.Sized.{KeepsSize}
 use Rattle.keeper.specs.Linking.{slots_found}
 use Rattle.keeper.proofs.Size.{size_same, size_then, size_writes, cond_holds}

@@ -3,7 +3,7 @@ use Rattle.std.proofs.Common.{◌≡◌, ℕ, zero, suc, ◌+◌, ◌-◌, ◌/�
 use Rattle.std.proofs.lemmas.Bool.{cond_both}
 use Rattle.order.specs.declared.board.TheConstants.{CARDS}
 use Rattle.memory.specs.declared.column.Column.{Column}
-use Rattle.memory.specs.Columns.{cell, written}
+use Rattle.memory.specs.Columns.{cell}
 use Rattle.memory.specs.Footprints.{Small, Writes, at_each}
 use Rattle.memory.specs.PlaceSets.{first_mark}
 use Rattle.memory.proofs.Alone.{writes_added, writes_removed}

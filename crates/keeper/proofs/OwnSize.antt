@@ -15,7 +15,7 @@ use Rattle.memory.proofs.Footprints.{same}
 use Rattle.memory.proofs.Options.{given_holds}
 use Rattle.row.specs.declared.layout.TheConstants.{IDS, SEATS, COUNT}
 use Rattle.row.specs.Columns.{columns as row_columns}
-use Rattle.row.specs.Meaning.{taken, place_at}
+use Rattle.row.specs.Meaning.{place_at}
 use Rattle.row.specs.Lookup.{found}
 use Rattle.row.specs.Telling.{next_seat}
 use Rattle.row.specs.Moves.{came, gone, place_found}

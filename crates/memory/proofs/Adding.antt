@@ -33,7 +33,7 @@ unfolding removed
 removing m c p sm =
     cond_both (marked m c p) (toggled m c p) m (λ (x : List ℕ). Summed x c × ((q : ℕ) → marked x c q ≡ (marked m c q && not (eqb q p))))
     (λ e.
-      let past = marked_past m c p in
-      let h : p < PLACES = grind (arith, nat_tests) in
-      (summed_toggled m c p sm h, λ q. let t = marked_toggled m c p sm h q in ⊎_elim (λ (s : q ≡ p). grind (arith, nat_tests)) (λ n. grind (arith, nat_tests)) (cases_eq q p)))
+    let past = marked_past m c p in
+    let h : p < PLACES = grind (arith, nat_tests) in
+    (summed_toggled m c p sm h, λ q. let t = marked_toggled m c p sm h q in ⊎_elim (λ (s : q ≡ p). grind (arith, nat_tests)) (λ n. grind (arith, nat_tests)) (cases_eq q p)))
     (λ e. (sm, λ q. ⊎_elim (λ (s : q ≡ p). grind (arith, nat_tests)) (λ n. grind (arith, nat_tests)) (cases_eq q p)))

@@ -50,9 +50,9 @@ module _ (m : List ℕ) (c : Column) (sm : Summed m c) where
   next_down_nearest p =
       cond_both (eqb p 0) None (down_from m c (min p PLACES - 1)) (Nearest Down (marked m c) (λ r. r < p)) (λ e r l. absurd (omega (arith, eqb-true p 0 e)))
       (λ e. let n = eqb-false p 0 e in
-        changed Down (bit m c 0) (marked m c) (λ r. r < min p PLACES) (λ r. r < p) (down_from m c (min p PLACES - 1))
-        (λ r d e. (omega arith, marked_bit m c r (omega arith) e)) (λ r e k. unmarked m c r (λ h. k (omega arith)))
-        (down_from_nearest (min p PLACES - 1) (min p PLACES) (omega arith) (omega arith)))
+      changed Down (bit m c 0) (marked m c) (λ r. r < min p PLACES) (λ r. r < p) (down_from m c (min p PLACES - 1))
+      (λ r d e. (omega arith, marked_bit m c r (omega arith) e)) (λ r e k. unmarked m c r (λ h. k (omega arith)))
+      (down_from_nearest (min p PLACES - 1) (min p PLACES) (omega arith) (omega arith)))
 
 just_before : (f : ℕ → Bool) (p : ℕ) (o : Option ℕ) → Nearest Down f (λ r. r < p) o → JustBefore f p o
 just_before f p None a = a

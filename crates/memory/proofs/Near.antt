@@ -29,9 +29,9 @@ module _ (m : List ℕ) (c : Column) (s i : ℕ) where
       in_part Up (λ r. (i ≤ r) × (r / 64 ≡ i / 64)) v (i + count_trailing_zeros 64 v) (λ r. r - i)
       (λ r d. let k : r % 64 ≡ i % 64 + (r - i) = omega arith in bit_in r d.1 ∙ ap (digit (cell m c (s + i / 64))) k ∙ sym (digit_shr (cell m c (s + i / 64)) (i % 64) (r - i)))
       (λ nz.
-        let low = trailing_first (cell m c (s + i / 64)) (i % 64) (omega arith) fits nz in
-        let k : i + count_trailing_zeros 64 v - i ≡ count_trailing_zeros 64 v = omega arith in
-        (omega arith, rw k low.1, λ r d x. low.2 (r - i) (omega arith)))
+      let low = trailing_first (cell m c (s + i / 64)) (i % 64) (omega arith) fits nz in
+      let k : i + count_trailing_zeros 64 v - i ≡ count_trailing_zeros 64 v = omega arith in
+      (omega arith, rw k low.1, λ r d x. low.2 (r - i) (omega arith)))
     where
       v : ℕ
       v = cell m c (s + i / 64) / 2 ^ (i % 64)
@@ -42,12 +42,12 @@ module _ (m : List ℕ) (c : Column) (s i : ℕ) where
       in_part Down (λ r. (r ≤ i) × (r / 64 ≡ i / 64)) v (i / 64 * 64 + (63 - count_leading_zeros 64 v)) (λ r. r % 64)
       (λ r d. bit_in r d.1 ∙ sym (digit_mod (cell m c (s + i / 64)) (i % 64 + 1) (r % 64) (omega arith)))
       (λ nz.
-        let high = leading_highest v (omega (arith, mod-le (cell m c (s + i / 64)) (2 ^ (i % 64 + 1)))) nz in
-        let top : ℕ = 63 - count_leading_zeros 64 v in
-        let e : (i / 64 * 64 + (63 - count_leading_zeros 64 v)) % 64 ≡ 63 - count_leading_zeros 64 v = omega arith in
-        let small = mod_below (cell m c (s + i / 64)) (2 ^ (i % 64 + 1)) (pow_pos (i % 64 + 1)) in
-        let l : top ≤ i % 64 = ⊎_elim (λ l. absurd (both_ways (digit v top) (digit_above v (i % 64 + 1) top (div-eq_of_lt small) (omega arith)) high.0)) (λ l. l) (cases_lt (i % 64) top) in
-        (omega arith, rw e high.0, λ r d x. high.1 (r % 64) (omega arith)))
+      let high = leading_highest v (omega (arith, mod-le (cell m c (s + i / 64)) (2 ^ (i % 64 + 1)))) nz in
+      let top : ℕ = 63 - count_leading_zeros 64 v in
+      let e : (i / 64 * 64 + (63 - count_leading_zeros 64 v)) % 64 ≡ 63 - count_leading_zeros 64 v = omega arith in
+      let small = mod_below (cell m c (s + i / 64)) (2 ^ (i % 64 + 1)) (pow_pos (i % 64 + 1)) in
+      let l : top ≤ i % 64 = ⊎_elim (λ l. absurd (both_ways (digit v top) (digit_above v (i % 64 + 1) top (div-eq_of_lt small) (omega arith)) high.0)) (λ l. l) (cases_lt (i % 64) top) in
+      (omega arith, rw e high.0, λ r d x. high.1 (r % 64) (omega arith)))
     where
       v : ℕ
       v = cell m c (s + i / 64) % 2 ^ (i % 64 + 1)

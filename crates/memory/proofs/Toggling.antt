@@ -71,7 +71,7 @@ module _ (m : List ℕ) (c : Column) (p : ℕ) (sm : Summed m c) (h : p < PLACES
     room = sm.room;
     lies = one_of (λ (x : List ℕ). c.base + c.size ≤ length x) (λ _. rw (length_flipped (flipped m c 0 p) c WORDS (p / 64)) lies) (λ _. lies);
     fits = λ j.
-      let f = fits_flipped m c 0 p inside sm.lies sm.fits in
-      one_of (λ (x : List ℕ). cell x c j < 2 ^ 64) (λ _. fits_flipped (flipped m c 0 p) c WORDS (p / 64) above lies f j) (λ _. f j);
+        let f = fits_flipped m c 0 p inside sm.lies sm.fits in
+        one_of (λ (x : List ℕ). cell x c j < 2 ^ 64) (λ _. fits_flipped (flipped m c 0 p) c WORDS (p / 64) above lies f j) (λ _. f j);
     sums = sums_toggled;
   }

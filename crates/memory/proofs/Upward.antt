@@ -27,9 +27,9 @@ module _ (m : List ℕ) (c : Column) (fits : (i : ℕ) → cell m c i < 2 ^ 64) 
       let rest = tops_up (TOPS - (w / 64 + 1)) m c (w / 64 + 1) in
       cond_both (ltb w WORDS) (or_else (next_bit m c WORDS w) rest) None (Nearest Up (bit m c WORDS) (λ r. (w ≤ r) × (r < WORDS)))
       (λ e. let l = ltb-true w WORDS e in
-        joined Up (bit m c WORDS) (λ r. (w ≤ r) × (r / 64 ≡ w / 64)) (λ r. ((w / 64 + 1) * 64 ≤ r) × (r < WORDS)) (λ r. (w ≤ r) × (r < WORDS))
-        (next_bit m c WORDS w) rest (grind arith) (next_bit_nearest m c WORDS w (fits (WORDS + w / 64)))
-        (tops_up_nearest (TOPS - (w / 64 + 1)) (w / 64 + 1) (omega arith)))
+      joined Up (bit m c WORDS) (λ r. (w ≤ r) × (r / 64 ≡ w / 64)) (λ r. ((w / 64 + 1) * 64 ≤ r) × (r < WORDS)) (λ r. (w ≤ r) × (r < WORDS))
+      (next_bit m c WORDS w) rest (grind arith) (next_bit_nearest m c WORDS w (fits (WORDS + w / 64)))
+      (tops_up_nearest (TOPS - (w / 64 + 1)) (w / 64 + 1) (omega arith)))
       (λ e r d. absurd (omega (arith, ltb-false w WORDS e)))
 
 module _ (m : List ℕ) (c : Column) (sm : Summed m c) where
@@ -39,11 +39,11 @@ module _ (m : List ℕ) (c : Column) (sm : Summed m c) where
       let rest = given (word_up m c (p / 64 + 1)) None (λ w. next_bit m c 0 (w * 64)) in
       cond_both (ltb p PLACES) (or_else (next_bit m c 0 p) rest) None (Nearest Up (bit m c 0) (λ r. (p ≤ r) × (r < PLACES)))
       (λ e. let l = ltb-true p PLACES e in
-        joined Up (bit m c 0) (λ r. (p ≤ r) × (r / 64 ≡ p / 64)) (λ r. (p / 64 + 1 ≤ r / 64) × (r / 64 < WORDS)) (λ r. (p ≤ r) × (r < PLACES))
-        (next_bit m c 0 p) rest (grind arith) (next_bit_nearest m c 0 p (sm.fits (0 + p / 64)))
-        (by_words Up (bit m c 0) (bit m c WORDS) (λ w. next_bit m c 0 (w * 64)) (λ v. (p / 64 + 1 ≤ v) × (v < WORDS)) (word_up m c (p / 64 + 1)) (omega arith)
-        (λ r d. none_named m c sm r (omega arith)) (λ v d e. (next_bit_some m c v (some_named m c sm v d.1 e), in_word v))
-        (word_up_nearest m c sm.fits (p / 64 + 1))))
+      joined Up (bit m c 0) (λ r. (p ≤ r) × (r / 64 ≡ p / 64)) (λ r. (p / 64 + 1 ≤ r / 64) × (r / 64 < WORDS)) (λ r. (p ≤ r) × (r < PLACES))
+      (next_bit m c 0 p) rest (grind arith) (next_bit_nearest m c 0 p (sm.fits (0 + p / 64)))
+      (by_words Up (bit m c 0) (bit m c WORDS) (λ w. next_bit m c 0 (w * 64)) (λ v. (p / 64 + 1 ≤ v) × (v < WORDS)) (word_up m c (p / 64 + 1)) (omega arith)
+      (λ r d. none_named m c sm r (omega arith)) (λ v d e. (next_bit_some m c v (some_named m c sm v d.1 e), in_word v))
+      (word_up_nearest m c sm.fits (p / 64 + 1))))
       (λ e r d. absurd (omega (arith, ltb-false p PLACES e)))
     where
       in_word : (v : ℕ) → Nearest Up (bit m c 0) (λ r. r / 64 ≡ v) (next_bit m c 0 (v * 64))

@@ -7,8 +7,8 @@ ghost use Rattle.order.specs.Kept.{Names};
 
 use anyhow::{Context, ensure};
 use input::{Question, decode, split};
-use program::Program;
 use order::{Misfit, kept};
+use program::Program;
 use std::env;
 use std::process::ExitCode;
 
