@@ -51,9 +51,7 @@ pub mod InOrder
 pub mod TidySlots
 pub mod Tidies
 pub mod TidySize
-pub mod TriedFrames
 pub mod Undoing
-pub mod SeatedBack
 pub mod ReadyAgain
 pub mod LoadSteps
 pub mod CircleSteps

@@ -1,6 +1,6 @@
 -- Slots take each other's seats, over any columns: what stands, stands; the same slots are in use.
-use Rattle.std.proofs.Common.{◌≡◌, ℕ, ◌<◌, Bool, true, false, ◌&&◌, eqb, ltb, List, [], ◌∷◌, sym, ap, ◌∙◌, inl, inr}
-use Rattle.std.proofs.lemmas.Bool.{cases_Bool, both_ways, lt-ltb, eq-eqb, eqb-true, and_parts, and_from}
+use Rattle.std.proofs.Common.{◌≡◌, ℕ, ◌<◌, Bool, true, false, ◌&&◌, eqb, ltb, List, [], ◌∷◌, sym, ap, ◌∙◌, arith}
+use Rattle.std.proofs.lemmas.Bool.{lt-ltb, eq-eqb, eqb-true, and_parts, and_from}
 use Rattle.order.specs.declared.board.TheConstants.{CARDS}
 use Rattle.order.specs.Lists.{has}
 use Rattle.order.proofs.Members.{has_head, has_tail}
@@ -16,16 +16,16 @@ pub record Moves (slot seat slot' seat' : ℕ → ℕ) (held : ℕ → Bool) : T
   pub is : (p : ℕ) → held p ≡ true → (q : ℕ) × (held q ≡ true) × (slot' q ≡ slot p)
   pub else : (s : ℕ) → in_use slot seat held s ≡ false → seat' s ≡ seat s
 
--- a slot that sits at a taken seat is in use
-sits : (slot seat : ℕ → ℕ) (held : ℕ → Bool) (p s : ℕ) → held p ≡ true → slot p ≡ s → seat s ≡ p → s < CARDS → in_use slot seat held s ≡ true
+-- a slot that is in use is so still, if at each taken seat sits, of what it has, the slot that sat somewhere
+on_so : (slot seat slot' seat' : ℕ → ℕ) (held : ℕ → Bool) → ((p : ℕ) → held p ≡ true → slot' p < CARDS) → ((p : ℕ) → held p ≡ true → seat' (slot' p) ≡ p) →
+    ((p : ℕ) → held p ≡ true → (q : ℕ) × (held q ≡ true) × (slot' q ≡ slot p)) → (s : ℕ) → in_use slot seat held s ≡ true → in_use slot' seat' held s ≡ true
 unfolding in_use
-sits slot seat held p s h e b l = and_from _ _ (lt-ltb s CARDS l) (and_from _ _ (ap held b ∙ h) (eq-eqb (slot (seat s)) s (ap slot b ∙ e)))
-
-sits_at : (slot seat : ℕ → ℕ) (held : ℕ → Bool) (s : ℕ) → in_use slot seat held s ≡ true → (held (seat s) ≡ true) × (slot (seat s) ≡ s)
-unfolding in_use
-sits_at slot seat held s u =
+on_so slot seat slot' seat' held low back goes s u =
     let a = and_parts (held (seat s)) (eqb (slot (seat s)) s) (and_parts (ltb s CARDS) _ u).1 in
-    (a.0, eqb-true (slot (seat s)) s a.1)
+    let q = goes (seat s) a.0 in
+    let w : slot' q.0 ≡ s = q.2 ∙ eqb-true (slot (seat s)) s a.1 in
+    let b : seat' s ≡ q.0 = ap seat' (sym w) ∙ back q.0 q.1 in
+    and_from _ _ (lt-ltb s CARDS (rw (← w) (low q.0 q.1))) (rw b (and_from _ _ q.1 (eq-eqb (slot' q.0) s w)))
 
 module _ (n e f top : ℕ) (id next slot seat slot' seat' : ℕ → ℕ) (held : ℕ → Bool) (S : Standing n e f top id next slot seat held)
     (M : Moves slot seat slot' seat' held) where
@@ -36,25 +36,11 @@ module _ (n e f top : ℕ) (id next slot seat slot' seat' : ℕ → ℕ) (held :
   live' = in_use slot' seat' held
 
   -- the same slots are in use
-  on_then : (s : ℕ) → live s ≡ true → live' s ≡ true
-  on_then s u =
-      let a = sits_at slot seat held s u in
-      let q = M.is (seat s) a.0 in
-      let w : slot' q.0 ≡ s = q.2 ∙ a.1 in
-      sits slot' seat' held q.0 s q.1 w (ap seat' (sym w) ∙ M.back q.0 q.1) (rw (← w) (M.low q.0 q.1))
-
-  on_before : (s : ℕ) → live' s ≡ true → live s ≡ true
-  on_before s u =
-      let a = sits_at slot' seat' held s u in
-      let q = M.was (seat' s) a.0 in
-      let w : slot q.0 ≡ s = q.2 ∙ a.1 in
-      sits slot seat held q.0 s q.1 w (ap seat (sym w) ∙ S.seated.seat_of q.0 q.1) (rw (← w) (S.seated.low q.0 q.1))
-
   pub same_live : (s : ℕ) → live' s ≡ live s
-  same_live s = elim (cases_Bool (live s)) [
-    | inl u ↦ on_then s u ∙ sym u
-    | inr u ↦ elim (cases_Bool (live' s)) [ inl v ↦ absurd (both_ways (live s) u (on_before s v)) | inr v ↦ v ∙ sym u ]
-  ]
+  same_live s =
+      let a = on_so slot seat slot' seat' held M.low M.back M.is s in
+      let b = on_so slot' seat' slot seat held S.seated.low S.seated.seat_of M.was s in
+      grind arith
 
   stacked : (t : ℕ) (ss : List ℕ) → ((s : ℕ) → has ss s ≡ true → live s ≡ false) → Stacked seat t ss → Stacked seat' t ss
   stacked t [] h k = k
