@@ -215,15 +215,17 @@ module _ (m : List ℕ) (r : Board) (l : Link) (ls : List Link) where
   goes_up : GoesRound m r l → leads r l.to l.from ≡ true → Both m r (l ∷ ls)
   unfolding tried closes Becomes
   goes_up G ld =
-      let M = subst (λ (ks : List Link). Means (joined m l).memory (record { row = r.row; links = ks })) (sym (append-nil r.links)) G.means in
-      (λ z. absurd (both_ways _ z (rw ld refl)), λ _. record {
-        way = G.way;
-        is_way = rw G.is_way refl;
-        round = closing r l ls G.way G.round;
-        row = r.row;
-        becomes = rw G.is_way refl;
-        means = rw G.is_way M;
-      })
+      let M = subst (λ (ks : List Link). Means (joined m l).memory (record { row = r.row; links = ks })) (sym (append-nil r.links)) G.means in (
+        λ z. absurd (both_ways _ z (rw ld refl)),
+        λ _. record {
+          way = G.way;
+          is_way = rw G.is_way refl;
+          round = closing r l ls G.way G.round;
+          row = r.row;
+          becomes = rw G.is_way refl;
+          means = rw G.is_way M;
+        },
+      )
 
   goes_in : (P : PutIn m r l) → leads r l.to l.from ≡ false → closes (after_link r l P.row) ls ≡ closes (linked_on r l) ls →
       Both (joined m l).memory (after_link r l P.row) ls → Both m r (l ∷ ls)
