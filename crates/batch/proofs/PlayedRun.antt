@@ -1,5 +1,5 @@
--- A step is taken if the memory and the output fit, else nothing is changed. A saying that is played goes as it runs on the engine: the same memory after it,
--- refused for the reason by which the run ended, and what the run shows stands at the front of the output.
+-- A step is taken if the memory and the output fit, else nothing is changed. A saying that is played goes as it runs on the engine: the same memory
+-- after it, refused for the reason by which the run ended, and what the run shows stands at the front of the output.
 use Rattle.std.proofs.Common.{◌≡◌, ℕ, zero, suc, List, Result, refl, ap, ◌∙◌, ◌≤◌, Bool, true, false, ◌++◌, length, take, drop, Err, sym, ap₂, arith, [], subst, Ok, ◌∷◌, Some, length-append, length-take}
 use mathlib.Core.Path.{fun_ext}
 use Rattle.keeper.specs.declared.event.Event.TheVariants.{Next}

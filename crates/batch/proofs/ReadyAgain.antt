@@ -1,5 +1,5 @@
--- A memory that means a board means it still, if what is written is beside what it is read from, but for how the slots of the row sit. So does one that has the
--- row as another one had it put aside, seated again.
+-- A memory that means a board means it still, if what is written is beside what it is read from, but for how the slots of the row sit. So does one that
+-- has the row as another one had it put aside, seated again.
 use Rattle.std.proofs.Common.{◌≡◌, ℕ, true, List, sym, ap, ◌∙◌, [], ◌∷◌, length, refl, ◌+◌, ◌≤◌, false, Bool, map, Option, ap₂, ◌-◌, ◌<◌, take, drop, subst, arith}
 use mathlib.Core.Path.{fun_ext}
 use Rattle.memory.specs.declared.column.Column.{Column}

@@ -222,7 +222,8 @@ sized_several m ls h =
     let p = packed m in
     sized_cond m (leb (length ls) BATCH) _ _
     (sized_cond m (all_found m ls) _ _
-    (sized_cond m (repeated m [] ls) _ _ (no Exists) (sized_then m p (size_writes _ m p (packed_writes m)) _ (sized_rearranged p ls h (span p ls) (bounded_span p ls))))
+    (sized_cond m (repeated m [] ls) _ _ (no Exists)
+    (sized_then m p (size_writes _ m p (packed_writes m)) _ (sized_rearranged p ls h (span p ls) (bounded_span p ls))))
     (no Missing))
     (no Full)
 

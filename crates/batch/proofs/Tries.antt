@@ -1,5 +1,5 @@
--- A link that is tried is put in, with the row as if the link were said alone, or it goes round, and the memory means the same board. So with links tried one
--- after the other: all are in, with the row that they make, or one goes round, and those before it are in.
+-- A link that is tried is put in, with the row as if the link were said alone, or it goes round, and the memory means the same board. So with links
+-- tried one after the other: all are in, with the row that they make, or one goes round, and those before it are in.
 use Rattle.std.proofs.Common.{◌≡◌, ℕ, ◌<◌, ◌≤◌, true, false, List, [], ◌∷◌, length, Some, None, Option, sym, refl, ap, ◌∙◌, subst, inl, inr, arith, suc, ◌+◌, ◌&&◌, ◌||◌, eqb, ◌++◌, append_assoc, append-nil, length-append}
 use Rattle.std.proofs.lemmas.Bool.{cases_eq, cases_lt, both_ways, eq-eqb, ne_eqb, lt-ltb, le-ltb, and_from, cases_Bool, and_parts}
 use Rattle.order.specs.declared.board.Link.{Link}
@@ -255,7 +255,12 @@ module _ (m : List ℕ) (r : Board) (l : Link) (ls : List Link) where
 pub tries : Tries
 unfolding tried closes Becomes
 tries m r [] M sm t b h = (
-  (λ _. record { no_way = refl; row = r.row; becomes = refl; means = subst (λ (ls : List Link). Means m (record { row = r.row; links = ls })) (sym (append-nil r.links)) M }),
+  (λ _. record {
+    no_way = refl;
+    row = r.row;
+    becomes = refl;
+    means = subst (λ (ls : List Link). Means m (record { row = r.row; links = ls })) (sym (append-nil r.links)) M;
+  }),
   λ e. absurd (both_ways _ refl e),
 )
 tries m r (l ∷ ls) M sm t b h =
