@@ -22,7 +22,7 @@ use Rattle.batch.specs.declared.layout.TheConstants.{SPARE}
 use Rattle.batch.specs.Renewing.{drawn, Renewed, renewing}
 use Rattle.batch.specs.Rule.{waits, first_free, without, by_rule}
 use Rattle.batch.proofs.Many.{many_any}
-use Rattle.batch.proofs.RenewFrames.{own}
+use Rattle.batch.proofs.Writing.{own}
 use Rattle.batch.proofs.Denseness.{row_is, row_once}
 use Rattle.batch.proofs.Freeing.{Tidy}
 use Rattle.batch.proofs.Lefts.{first_by_place}
@@ -40,7 +40,7 @@ module _ (m : List ℕ) (T : Tidy m) where
   -- the first mark is at the first card that doesn't wait
   module _ (left n : List ℕ) (D : Drawing m T left n) where
     left_once : distinct left ≡ true
-    left_once = ap distinct D.part ∙ distinct_filter (has left) (row_of m) (row_once m T.dense)
+    left_once = ap distinct D.part ∙ distinct_filter (has left) (row_of m) (row_once m T.dense.is_row)
 
     least : Least (marked n FORE.column) (first_mark n FORE.column)
     least = first_of_all n FORE.column D.waiting.summed

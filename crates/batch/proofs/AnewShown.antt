@@ -11,7 +11,7 @@ use Rattle.order.proofs.Filters.{every_more}
 use Rattle.memory.specs.Columns.{cell}
 use Rattle.row.specs.declared.layout.TheConstants.{IDS}
 use Rattle.row.specs.Meaning.{row_of, used, count}
-use Rattle.row.proofs.Named.{has_slot, slots_named}
+use Rattle.row.proofs.Named.{has_slot, length_slots, slots_named}
 use Rattle.row.proofs.Present.{apart}
 use Rattle.links.specs.Table.{edges}
 use Rattle.search.specs.Meaning.{slot_board}
@@ -26,7 +26,6 @@ use Rattle.batch.specs.RenewLaws.{MadeAnew}
 use Rattle.batch.specs.Circling.{traced, round}
 use Rattle.batch.specs.MakingAnew.{Made, new_row, ended}
 use Rattle.batch.proofs.MadeAnew.{renews}
-use Rattle.batch.proofs.Denseness.{length_row}
 use Rattle.batch.proofs.MakingSteps.{ended_round, ended_row}
 use Rattle.batch.proofs.RuleRounds.{anew_round}
 use Rattle.batch.proofs.RuleRenames.{anew_named}
@@ -69,7 +68,7 @@ module _ (m row : List ℕ) (ls : List Link) (H : Holding m row ls) where
 
   count_is : count m' ≡ length row
   count_is =
-      sym (length_row m' law.dense) ∙ ap length law.same_row ∙ sym (length-map (row_of m) (cell m IDS)) ∙ ap (λ (r : Board). length r.row) board_is
+      sym (length_slots m' law.dense.is_row) ∙ ap length law.same_row ∙ sym (length-map (row_of m) (cell m IDS)) ∙ ap (λ (r : Board). length r.row) board_is
 
   -- if all come, the row by the rule is shown
   pub row_shown : (out : List ℕ) → length (anew ls row) ≡ length row →

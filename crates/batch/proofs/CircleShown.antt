@@ -15,6 +15,7 @@ use Rattle.memory.specs.Footprints.{Writes}
 use Rattle.memory.proofs.Footprints.{same, less, after}
 use Rattle.row.specs.declared.layout.TheConstants.{COUNT, IDS, SLOTS}
 use Rattle.row.specs.Meaning.{row_of, used, count}
+use Rattle.row.proofs.Named.{used_below, has_used, has_slot, length_slots}
 use Rattle.links.specs.declared.layout.TheConstants.{ENTRIES, AGE, ALL}
 use Rattle.links.specs.Pairs.{is_between, pair}
 use Rattle.links.specs.Table.{edges, IsTable}
@@ -33,7 +34,7 @@ use Rattle.batch.specs.MakingAnew.{new_row}
 use Rattle.batch.proofs.RuleLeft.{left_waits, one_not}
 use Rattle.batch.proofs.Many.{has_reverse}
 use Rattle.batch.proofs.Counting.{pair_parts}
-use Rattle.batch.proofs.Denseness.{few, row_is, length_row, slot_used, used_below, has_slot, row_in, row_once}
+use Rattle.batch.proofs.Denseness.{few, row_is, row_once, slot_used}
 use Rattle.batch.proofs.LinkByLink.{along_fold}
 use Rattle.batch.proofs.Flagging.{flags, flagging, flags_writes, stays_is, first_left_is}
 use Rattle.batch.proofs.Noting.{noting, noted_writes, Noted, all_noted, fold_writes}
@@ -110,7 +111,7 @@ module _ (m : List ℕ) (n : ℕ) (long : NUMBERS.base + NUMBERS.size ≤ length
   wrote = after tracing noting m y x refl x_wrote (less tracing flagging m y refl y_wrote)
 
   y_stays : (s : ℕ) → used m s ≡ true → stays y s ≡ not (gone s)
-  y_stays s u = stays_is m n (omega (arith, long)) s (used_below m D s u) ∙ ap (λ (ks : List ℕ). not (has ks s)) come
+  y_stays s u = stays_is m n (omega (arith, long)) s (used_below m D.is_row s u) ∙ ap (λ (ks : List ℕ). not (has ks s)) come
 
   x_stays : (s : ℕ) → stays x s ≡ stays y s
   unfolding stays
@@ -120,11 +121,11 @@ module _ (m : List ℕ) (n : ℕ) (long : NUMBERS.base + NUMBERS.size ≤ length
   noted_late : (s : ℕ) → late s ≡ true → Noted y long_y xs s x
   noted_late s h =
       let u = and_parts (used m s) (not (gone s)) h in
-      let w = left_waits (edges m) (row_of m) (row_once m D) s (has_slot m D s u.0) (grind arith) in
+      let w = left_waits (edges m) (row_of m) (row_once m D.is_row) s (has_slot m D.is_row s u.0) (grind arith) in
       let p = pair_of (edges m) w.0 s (all_between m T) w.1 in
-      let z : stays y (p.0 / CARDS) ≡ true = ap (stays y) p.2 ∙ y_stays w.0 (row_in m D w.0 w.2) ∙ ap not w.3 in
+      let z : stays y (p.0 / CARDS) ≡ true = ap (stays y) p.2 ∙ y_stays w.0 (sym (has_used m D.is_row w.0) ∙ w.2) ∙ ap not w.3 in
       subst (Noted y long_y xs s) (sym x_is)
-      (all_noted y long_y xs s (used_below m D s u.0) xs y p.0 (same noting y) (λ k i. i) (has_reverse (map pair (edges m)) p.0 ∙ p.1) z p.3)
+      (all_noted y long_y xs s (used_below m D.is_row s u.0) xs y p.0 (same noting y) (λ k i. i) (has_reverse (map pair (edges m)) p.0 ∙ p.1) z p.3)
 
   abbrev next : ℕ → ℕ
   next = cell x NUMBERS
@@ -138,7 +139,7 @@ module _ (m : List ℕ) (n : ℕ) (long : NUMBERS.base + NUMBERS.size ≤ length
       (subst (λ (k : ℕ). linked (slot_board m) (l / CARDS) k ≡ true) w.into
       (link_of (edges m) l (all_between m T) (sym (has_reverse (map pair (edges m)) l) ∙ w.looked))) in
       let b = every_at (λ (a c : ℕ). has (row_of m) a && has (row_of m) c) (edges m) (next s) s within e in
-      let u = row_in m D (next s) (and_parts (has (row_of m) (next s)) (has (row_of m) s) b).0 in
+      let u = sym (has_used m D.is_row (next s)) ∙ (and_parts (has (row_of m) (next s)) (has (row_of m) s) b).0 in
       let v : stays y (next s) ≡ true = ap (stays y) w.is ∙ w.late in
       (and_from _ _ u (sym (y_stays (next s) u) ∙ v), e)
 
@@ -154,7 +155,7 @@ module _ (m : List ℕ) (n : ℕ) (long : NUMBERS.base + NUMBERS.size ≤ length
 
   some_late : (p : ℕ) × (p < count m) × (gone (cell m SLOTS p) ≡ false)
   some_late =
-      let o = one_not (row_of m) (new_row m n) (row_once m D) (omega (arith, length_row m D, length-map-range_with_len (cell m SPARE) 0 n)) in
+      let o = one_not (row_of m) (new_row m n) (row_once m D.is_row) (omega (arith, length_slots m D.is_row, length-map-range_with_len (cell m SPARE) 0 n)) in
       let q = made_has (cell m SLOTS) 0 (count m) o.0 (ap (λ (ks : List ℕ). has ks o.0) (sym (row_is m D)) ∙ o.1) in
       (q.0, omega (arith, q.2), ap gone q.3 ∙ ap (λ (ks : List ℕ). has ks o.0) (sym come) ∙ o.2)
 
@@ -170,9 +171,9 @@ module _ (m : List ℕ) (n : ℕ) (long : NUMBERS.base + NUMBERS.size ≤ length
   pub shows_circle : (N : ℕ) → CARDS ≤ N → (circle (slot_board m) (round x N) ≡ true) × (every (used m) (round x N) ≡ true)
   unfolding round on_circle
   shows_circle N h =
-      let in_row : (s : ℕ) → late s ≡ true → has (row_of m) s ≡ true = λ s d. has_slot m D s (and_parts (used m s) (not (gone s)) d).0 in
+      let in_row : (s : ℕ) → late s ≡ true → has (row_of m) s ≡ true = λ s d. has_slot m D.is_row s (and_parts (used m s) (not (gone s)) d).0 in
       let e = back next CARDS (start x) in
-      let w = comes_round next late (λ s d. (goes_back s d).0) (row_of m) in_row CARDS (start x) (omega (arith, length_row m D, few m D))
+      let w = comes_round next late (λ s d. (goes_back s d).0) (row_of m) in_row CARDS (start x) (omega (arith, length_slots m D.is_row, few m D))
       start_late in
       let d = stays_inside next late (λ s d. (goes_back s d).0) (row_of m) in_row CARDS (start x) start_late in
       let c = round_circle (slot_board m) late next goes_back e N w.0 (omega (arith, w.1)) w.2 d in

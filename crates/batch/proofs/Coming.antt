@@ -13,12 +13,13 @@ use Rattle.memory.specs.Columns.{cell}
 use Rattle.memory.specs.PlaceSets.{marked}
 use Rattle.row.specs.declared.layout.TheConstants.{SEATS}
 use Rattle.row.specs.Meaning.{row_of, used, count}
+use Rattle.row.proofs.Named.{used_below, has_used}
 use Rattle.links.specs.Table.{edges}
 use Rattle.search.specs.declared.layout.TheConstants.{FORE}
 use Rattle.search.specs.Meaning.{slot_on}
 use Rattle.batch.specs.declared.layout.TheConstants.{LEAVES}
 use Rattle.batch.specs.Rule.{waits, without}
-use Rattle.batch.proofs.Denseness.{slot_one, slot_used, used_place, used_below, row_in}
+use Rattle.batch.proofs.Denseness.{slot_one, slot_used, used_place}
 use Rattle.batch.proofs.Many.{many, one, many_any, many_parts, many_reverse, many_map, many_filter, every_reverse, every_map}
 use Rattle.batch.proofs.Counting.{from_it}
 use Rattle.batch.proofs.Freeing.{Tidy, Waiting}
@@ -64,7 +65,7 @@ module _ (m : List ℕ) (T : Tidy m) where
         (ltb-true p (count m) b.0, b.1, eqb-true (into left s) 0 a.1)
 
     pub s_low : s < CARDS
-    s_low = used_below m T.dense s (slot_used m T.dense p is_free.0)
+    s_low = used_below m T.dense.is_row s (slot_used m T.dense p is_free.0)
 
     no_wait : waits ls left s ≡ false
     no_wait = many_any (λ (y : Link). eqb y.to s && has left y.from) ls ∙ rw is_free.2 refl
@@ -112,7 +113,7 @@ module _ (m : List ℕ) (T : Tidy m) where
         sym (length-map (filter (from_it s) ls) (λ (y : Link). y.to)) ∙ sym (length-reverse (map (λ (y : Link). y.to) (filter (from_it s) ls)))
 
     in_use : (t : ℕ) → has left t ≡ true → used m t ≡ true
-    in_use t h = row_in m T.dense t (part_has (row_of m) left t D.part h)
+    in_use t h = sym (has_used m T.dense.is_row t) ∙ part_has (row_of m) left t D.part h
 
     -- the links out of the slot go into what is left then
     goes_to : (t : ℕ) → joins ls s t ≡ true → (used m t && where_left left' (cell m SEATS t)) ≡ true

@@ -1,5 +1,5 @@
 -- All links counted: for each slot, how many go into it, and how many come out of it.
-use Rattle.std.proofs.Common.{◌≡◌, ℕ, zero, suc, ◌+◌, ◌-◌, ◌/◌, ◌%◌, ◌^◌, ◌<◌, ◌≤◌, min, Bool, true, eqb, ltb, List, [], ◌∷◌, map, reverse, length, sym, refl, ap, ◌∙◌, subst, ap₂, inl, inr, arith}
+use Rattle.std.proofs.Common.{◌≡◌, ℕ, ◌+◌, ◌-◌, ◌/◌, ◌%◌, ◌^◌, ◌<◌, ◌≤◌, min, Bool, true, eqb, ltb, List, [], ◌∷◌, map, reverse, length, sym, refl, ap, ◌∙◌, subst, ap₂, inl, inr, arith}
 use lib.ListN.{length-map}
 use Rattle.std.specs.List.{fold}
 use Rattle.std.proofs.lemmas.List.{length-reverse}
@@ -9,9 +9,9 @@ use Rattle.order.specs.declared.board.Link.{Link}
 use Rattle.order.specs.Lists.{every, filter}
 use Rattle.order.proofs.Filters.{every_more}
 use Rattle.memory.specs.declared.column.Column.{Column}
-use Rattle.memory.specs.Columns.{cell, written, wiped}
+use Rattle.memory.specs.Columns.{cell, wiped}
 use Rattle.memory.specs.Footprints.{Writes}
-use Rattle.memory.proofs.Cells.{length_written, cell_same, cell_other}
+use Rattle.memory.proofs.Cells.{cell_same, cell_other}
 use Rattle.memory.proofs.Footprints.{same, on}
 use Rattle.links.specs.declared.layout.TheConstants.{ENTRIES, AGE, ALL}
 use Rattle.links.specs.Pairs.{is_between, pair}
@@ -23,7 +23,8 @@ use Rattle.batch.specs.declared.layout.TheConstants.{WAITS, LEAVES}
 use Rattle.batch.specs.Renewing.{raised, counted, cleared, counts}
 use Rattle.batch.proofs.Many.{many, one, many_cons, many_map, many_reverse, many_within, every_reverse, every_map}
 use Rattle.batch.proofs.LinkByLink.{along_fold}
-use Rattle.batch.proofs.Writing.{wiped_writes, raised_writes, counting, counted_writes, cleared_writes}
+use Rattle.batch.proofs.Saving.{wiped_writes, wiped_in}
+use Rattle.batch.proofs.Writing.{raised_writes, counting, counted_writes, cleared_writes}
 
 -- the links that go into a slot, and those that come out of it
 abbrev pub to_it : ℕ → Link → Bool
@@ -48,22 +49,6 @@ raised_is m c s x h l u = elim (cases_eq x s) [
       ∙ rw (eq-eqb s x (sym e)) (let z = ap (cell m c) e in omega arith)
   | inr e ↦ cell_other m c s x (min (cell m c s + 1) (2 ^ 64 - 1)) e ∙ rw (ne_eqb s x (λ z. e (sym z))) (omega arith)
 ]
-
--- a column of zeros
-wiped_out : (f : ℕ) (m : List ℕ) (c : Column) (i q : ℕ) → q < i → cell (wiped f m c i) c q ≡ cell m c q
-unfolding wiped
-wiped_out zero m c i q h = refl
-wiped_out (suc f) m c i q h = wiped_out f (written m c i 0) c (i + 1) q (omega arith) ∙ cell_other m c i q 0 (λ z. omega arith)
-
-pub wiped_in : (f : ℕ) (m : List ℕ) (c : Column) (i q : ℕ) → c.base + c.size ≤ length m → i ≤ q → q < i + f → q < c.size → cell (wiped f m c i) c q ≡ 0
-unfolding wiped
-wiped_in zero m c i q l a b h = absurd (omega arith)
-wiped_in (suc f) m c i q l a b h =
-    let m₁ = written m c i 0 in
-    elim (cases_eq q i) [
-      | inl e ↦ wiped_out f m₁ c (i + 1) q (omega arith) ∙ ap (cell m₁ c) e ∙ cell_same m c i 0 (omega arith) (omega arith)
-      | inr e ↦ wiped_in f m₁ c (i + 1) q (omega (arith, length_written m c i 0)) (omega arith) (omega arith) h
-    ]
 
 -- one link is counted: n is the memory before
 module _ (n : List ℕ) (x : ℕ) (long : LEAVES.base + LEAVES.size ≤ length n) (low : x / CARDS < CARDS)
@@ -158,10 +143,10 @@ module _ (m : List ℕ) (long : LEAVES.base + LEAVES.size ≤ length m) (T : IsT
   unfolding cleared
   zeros s h =
       let k = wiped CARDS m WAITS 0 in
-      let w = wiped_writes m WAITS CARDS m 0 (same (WAITS ∷ []) m) in (
-        (wiped_writes k LEAVES CARDS k 0 (same (LEAVES ∷ []) k)).others WAITS s refl
-            ∙ wiped_in CARDS m WAITS 0 s (omega (arith, long)) (omega arith) (omega arith) h,
-        wiped_in CARDS k LEAVES 0 s (omega (arith, long, w.as_long)) (omega arith) (omega arith) h,
+      let w = wiped_writes WAITS CARDS m 0 in (
+        (wiped_writes LEAVES CARDS k 0).others WAITS s refl
+            ∙ wiped_in WAITS CARDS m s (omega (arith, long)) h (omega arith),
+        wiped_in LEAVES CARDS k s (omega (arith, long, w.as_long)) h (omega arith),
       )
 
   counts_is : counts n₀ ≡ fold counted n₀ xs

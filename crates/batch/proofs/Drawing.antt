@@ -6,6 +6,7 @@ use Rattle.memory.specs.Columns.{cell, written}
 use Rattle.memory.specs.Footprints.{Writes}
 use Rattle.memory.specs.PlaceSets.{marked, removed}
 use Rattle.memory.proofs.Adding.{removing}
+use Rattle.memory.proofs.Alone.{writes_removed}
 use Rattle.memory.proofs.Cells.{length_written, cell_same, cell_other, cell_apart}
 use Rattle.memory.proofs.Footprints.{after, put_one}
 use Rattle.chains.specs.declared.cells.Pointer.{Pointer}
@@ -20,8 +21,7 @@ use Rattle.batch.specs.declared.layout.TheConstants.{SPARE, WAITS, LEAVES}
 use Rattle.batch.specs.Renewing.{lessened, released, let_go, drawn}
 use Rattle.batch.specs.Rule.{without}
 use Rattle.batch.proofs.LinkByLink.{labels, walked_enough, walked_few, along_fold}
-use Rattle.batch.proofs.Writing.{marking, removed_writes, lessening, lessened_writes}
-use Rattle.batch.proofs.RenewFrames.{own}
+use Rattle.batch.proofs.Writing.{marking, lessening, lessened_writes, own}
 use Rattle.batch.proofs.Freeing.{Tidy, Waiting, waiting_same, marks_alone}
 use Rattle.batch.proofs.Releasing.{Walked, walks}
 use Rattle.batch.proofs.Lefts.{part_without}
@@ -51,7 +51,7 @@ module _ (m : List ℕ) (T : Tidy m) (left n : List ℕ) (D : Drawing m T left n
   n₃ = written n₂ LEAVES s 0
 
   unmarked : Writes marking n n₁
-  unmarked = removed_writes n FORE.column p
+  unmarked = writes_removed FORE.column n p
 
   wrote_n₃ : Writes own m n₃
   wrote_n₃ =

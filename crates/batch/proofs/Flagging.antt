@@ -14,9 +14,8 @@ use Rattle.batch.specs.declared.layout.TheConstants.{SPARE, LEAVES}
 use Rattle.batch.specs.Circling.{flagged, stays, first_left}
 use Rattle.batch.specs.MakingAnew.{new_row}
 use Rattle.memory.specs.Footprints.{Writes, at_each}
-use Rattle.memory.proofs.Footprints.{same, on, put_one, each}
-use Rattle.batch.proofs.Counting.{wiped_in}
-use Rattle.batch.proofs.Writing.{wiped_writes}
+use Rattle.memory.proofs.Footprints.{on, put_one, each}
+use Rattle.batch.proofs.Saving.{wiped_writes, wiped_in}
 
 abbrev pub flagging : List Column
 flagging = LEAVES ∷ []
@@ -47,14 +46,14 @@ module _ (m : List ℕ) (n : ℕ) where
 
   pub flags_writes : Writes flagging m flags
   flags_writes =
-      on flagging m (wiped CARDS m LEAVES 0) flags (wiped_writes m LEAVES CARDS m 0 (same flagging m)) (flagged_writes n (wiped CARDS m LEAVES 0) 0)
+      on flagging m (wiped CARDS m LEAVES 0) flags (wiped_writes LEAVES CARDS m 0) (flagged_writes n (wiped CARDS m LEAVES 0) 0)
 
   pub stays_is : LEAVES.base + LEAVES.size ≤ length m → (s : ℕ) → s < CARDS → stays flags s ≡ not (has (new_row m n) s)
   unfolding stays
   stays_is l s h =
       let m₁ = wiped CARDS m LEAVES 0 in
-      let b = wiped_writes m LEAVES CARDS m 0 (same flagging m) in
-      let z = wiped_in CARDS m LEAVES 0 s l (omega arith) (omega arith) h in
+      let b = wiped_writes LEAVES CARDS m 0 in
+      let z = wiped_in LEAVES CARDS m s l h (omega arith) in
       let e = made_same (cell m₁ SPARE) (cell m SPARE) 0 n (λ p x y. b.others SPARE p refl) in
       rw (lt-ltb s CARDS h, flagged_is n m₁ 0 s (omega (arith, b.as_long)) h, z) (ap (λ (ks : List ℕ). not (has ks s) && true) e ∙ (grind arith))
 

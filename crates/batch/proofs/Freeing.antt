@@ -14,6 +14,7 @@ use Rattle.memory.proofs.Cells.{length_written, cell_same, cell_other, cell_apar
 use Rattle.memory.proofs.Footprints.{after}
 use Rattle.row.specs.declared.layout.TheConstants.{COUNT, SLOTS, SEATS}
 use Rattle.row.specs.Meaning.{row_of, used, count}
+use Rattle.row.proofs.Named.{used_below}
 use Rattle.links.specs.Table.{edges, IsTable}
 use Rattle.search.specs.declared.layout.TheConstants.{FORE}
 use Rattle.search.specs.Meaning.{slot_on}
@@ -22,9 +23,8 @@ use Rattle.batch.specs.declared.layout.TheConstants.{WAITS, LEAVES}
 use Rattle.batch.specs.Dense.{Dense}
 use Rattle.batch.specs.Renewing.{freed, freed_all, frees, lessened}
 use Rattle.batch.specs.RuleLaws.{within_row}
-use Rattle.batch.proofs.Denseness.{few, slot_at, used_place, used_below}
-use Rattle.batch.proofs.Writing.{marking, freed_writes, lessening, lessened_writes}
-use Rattle.batch.proofs.RenewFrames.{own}
+use Rattle.batch.proofs.Denseness.{few, slot_at, used_place}
+use Rattle.batch.proofs.Writing.{marking, freed_writes, lessening, lessened_writes, own}
 
 -- the same marks stand in the same cells
 pub marks_alone : (n k : List ℕ) → length k ≡ length n → ((i : ℕ) → cell k FORE.column i ≡ cell n FORE.column i) → Summed n FORE.column →
@@ -89,7 +89,7 @@ module _ (m : List ℕ) (T : Tidy m) where
     at = used_place m T.dense t u
 
     t_low : t < CARDS
-    t_low = used_below m T.dense t u
+    t_low = used_below m T.dense.is_row t u
 
     now_a : cell n₁ WAITS t ≡ a
     now_a =

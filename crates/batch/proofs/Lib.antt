@@ -27,7 +27,6 @@ pub mod PartSorted
 pub mod Saving
 pub mod Reseating
 pub mod RenewSteps
-pub mod RenewFrames
 pub mod Many
 pub mod Counting
 pub mod Freeing
@@ -38,16 +37,10 @@ pub mod Drawing
 pub mod AllCome
 pub mod MadeAnew
 pub mod PlaceByPlace
-pub mod Filling
 pub mod LookUps
-pub mod ColumnSorted
-pub mod ArrangeFrames
-pub mod SlotsOf
-pub mod WholeRow
 pub mod InOrder
 pub mod TidySlots
 pub mod Tidies
-pub mod TidySize
 pub mod Undoing
 pub mod ReadyAgain
 pub mod LoadSteps
@@ -63,8 +56,6 @@ pub mod LinksIn
 pub mod CircleRenames
 pub mod AnewShown
 pub mod MakesAnew
-pub mod CardsIn
 pub mod Denseness
 pub mod LinkByLink
-pub mod SeatsMoved
 pub mod Writing

@@ -16,7 +16,9 @@ use Rattle.row.specs.Meaning.{row_of, count, IsRow}
 use Rattle.row.specs.Moves.{packed}
 use Rattle.row.specs.Laws.{Packed}
 use Rattle.row.proofs.Again.{packs}
+use Rattle.row.proofs.Depending.{depends}
 use Rattle.row.proofs.Framing.{packed_writes}
+use Rattle.row.proofs.Named.{used_below, has_used, has_slot, length_slots}
 use Rattle.links.specs.Table.{edges, IsTable}
 use Rattle.links.proofs.Keeping.{table_kept, edges_kept}
 use Rattle.search.specs.declared.layout.TheConstants.{FORE}
@@ -28,9 +30,8 @@ use Rattle.batch.specs.Rule.{anew}
 use Rattle.batch.specs.RuleLaws.{within_row}
 use Rattle.batch.specs.RenewLaws.{MadeAnew, Renews}
 use Rattle.batch.proofs.Many.{many, many_within}
-use Rattle.batch.proofs.Denseness.{dense_packed, few, length_row, slot_used, used_below, has_slot, row_in, same_row, same_cards, same_used, dense_kept}
-use Rattle.batch.proofs.Writing.{counting, freed_all_writes}
-use Rattle.batch.proofs.RenewFrames.{own, renewed_writes}
+use Rattle.batch.proofs.Denseness.{dense_packed, few, slot_used, dense_kept}
+use Rattle.batch.proofs.Writing.{counting, freed_all_writes, own, renewed_writes}
 use Rattle.batch.proofs.Counting.{to_it, Counted, counts_so}
 use Rattle.batch.proofs.Freeing.{Tidy, Waiting, waiting_same, marks_alone, frees_all}
 use Rattle.batch.proofs.Lefts.{part_whole}
@@ -91,7 +92,7 @@ module _ (m : List ℕ) (long : LEAVES.base + LEAVES.size ≤ length m) (S : IsR
   -- and marked what waits for none
   everywhere : (p : ℕ) → ltb p (count m₁) ≡ where_left m₁ tidy row p
   everywhere p = elim (cases_lt p (count m₁)) [
-    | inl l ↦ rw (lt-ltb p (count m₁) l) (sym (has_slot m₁ tidy.dense (slot_on m₁ p) (slot_used m₁ tidy.dense p l)))
+    | inl l ↦ rw (lt-ltb p (count m₁) l) (sym (has_slot m₁ tidy.dense.is_row (slot_on m₁ p) (slot_used m₁ tidy.dense p l)))
     | inr l ↦ rw (le-ltb p (count m₁) l)
   ]
 
@@ -102,14 +103,14 @@ module _ (m : List ℕ) (long : LEAVES.base + LEAVES.size ≤ length m) (S : IsR
         waiting_same m₁ tidy (λ p. ltb p (count m₁)) (where_left m₁ tidy row) (into m₁ tidy row) (into m₁ tidy row) (frees n) everywhere (λ s. refl)
         (frees_all m₁ tidy (into m₁ tidy row) n waiting);
     leaves_are = λ s h.
-        (freed_all_writes (min (count n) CARDS) n 0).others LEAVES s refl ∙ counted.outs s (used_below m₁ tidy.dense s (row_in m₁ tidy.dense s h));
+        (freed_all_writes (min (count n) CARDS) n 0).others LEAVES s refl ∙ counted.outs s (used_below m₁ tidy.dense.is_row s (sym (has_used m₁ tidy.dense.is_row s) ∙ h));
     part = part_whole row;
     ahead = λ a b j h. (and_parts (has row a) (has row b) (every_at (λ a b. has row a && has row b) (edges m₁) a b tidy.within j)).1;
   }
 
   -- all come
   as_long : length row ≡ count m₁
-  as_long = length_row m₁ tidy.dense
+  as_long = length_slots m₁ tidy.dense.is_row
 
   renewed_is : renewing (length row) (prepared m) 0 ≡ renewed m
   unfolding renewed drawn_all
@@ -131,14 +132,15 @@ module _ (m : List ℕ) (long : LEAVES.base + LEAVES.size ≤ length m) (S : IsR
   pub made_anew : MadeAnew m m' (renewed m).came
   made_anew =
       let w = came.writes in
+      let s = depends own m₁ m' refl w in
       let many_came : (renewed m).came ≡ length (anew (edges m₁) row) = omega (arith, came.as_many) in
       record {
         wrote = renewed_writes m;
         dense = dense_kept own m₁ m' refl w tidy.dense;
         is_table = table_kept own refl m₁ m' w tidy.is_table;
-        same_row = same_row own m₁ m' refl w ∙ P.same_row;
-        same_cards = same_cards own m₁ m' refl w ∙ P.same_cards;
-        same_used = λ s. same_used own m₁ m' refl w s ∙ P.same_used s;
+        same_row = s.same_row ∙ P.same_row;
+        same_cards = s.same_cards ∙ P.same_cards;
+        same_used = λ t. s.same_used t ∙ P.same_used t;
         same_edges = edges_kept own refl m₁ m' w ∙ edges₁;
         fore_summed = came.summed;
         fore_none = came.none;

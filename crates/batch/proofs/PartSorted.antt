@@ -1,115 +1,124 @@
--- A part of the memory was sorted: the rest is as it was, in the part stands what is sorted, and no number is new.
-use Rattle.std.proofs.Common.{◌≡◌, ℕ, zero, suc, ◌+◌, ◌-◌, ◌^◌, ◌<◌, ◌≤◌, Bool, true, ltb, ◌⊎◌, List, [], ◌∷◌, ◌++◌, length, get_or, take, drop, sym, refl, ap, ◌∙◌, inl, inr, arith}
+-- A part of the memory was sorted: the rest is as it was, in the part stands what is sorted, and no number is new; so it is with the first numbers of a column.
+use Rattle.std.proofs.Common.{◌≡◌, ℕ, ◌+◌, ◌-◌, ◌^◌, ◌<◌, ◌≤◌, true, ◌&&◌, leb, ◌⊎◌, List, [], ◌∷◌, ◌++◌, map, length, get_or, take, drop, sym, refl, ap, ◌∙◌, inl, inr, arith}
 use borrow.Rule.Slice.PartMut.{put_mid}
-use Rattle.std.specs.List.{between}
+use Rattle.std.specs.List.{range_with_len, between}
 use Rattle.std.specs.List.Sorted.{IsPermutation, IsNonDecreasing}
+use Rattle.std.proofs.ByRecursion.{All-get_or, All-from_get_or, all_shuffled}
 use Rattle.std.proofs.lemmas.Bool.Decides.{nat_tests}
-use Rattle.std.proofs.lemmas.Bool.{cases_lt, le-leb, lt-ltb, ltb-true, and_parts, and_from}
+use Rattle.std.proofs.lemmas.Bool.{cases_lt, le-leb, leb-true, cond_both, and_parts}
 use Rattle.std.proofs.lemmas.List.{drop-drop, drop_at, take_at, length-take-le, length-append, length-take, length-drop, places}
-use Rattle.std.proofs.lemmas.List.Edits.{length-between}
+use Rattle.std.proofs.lemmas.List.Edits.{length-between, get_or-between}
+use Rattle.std.proofs.lemmas.List.FromFn.{fill_by_all}
 use Rattle.std.proofs.lemmas.List.Sorted.{length_permutation}
 use Rattle.memory.specs.declared.column.Column.{Column}
 use Rattle.memory.specs.Columns.{cell}
-use Rattle.order.specs.Lists.{every}
-use Rattle.order.proofs.Filters.{every_append, every_take}
-use Rattle.order.proofs.RenamesLists.{every_drop}
-use Rattle.memory.specs.Footprints.{Small}
+use Rattle.memory.specs.Footprints.{Small, Writes}
 use Rattle.batch.specs.Rule.{sorted}
 use Rattle.batch.specs.Sorting.{sorted_part}
-use Rattle.batch.proofs.Sorts.{sorted_shuffles, sorted_so, every_sorted}
-
--- the test of small numbers
-abbrev below : ℕ → Bool
-below k = ltb k (2 ^ 64)
-
-every_below : (m : List ℕ) → Small m → every below m ≡ true
-unfolding every
-every_below [] s = refl
-every_below (x ∷ xs) s = and_from _ _ (lt-ltb x (2 ^ 64) (s 0)) (every_below xs (λ i. s (suc i)))
-
-every_is_small : (m : List ℕ) → every below m ≡ true → Small m
-unfolding every
-every_is_small [] e i = omega arith
-every_is_small (x ∷ xs) e zero = ltb-true x (2 ^ 64) (and_parts (below x) (every below xs) e).0
-every_is_small (x ∷ xs) e (suc i) = every_is_small xs (and_parts (below x) (every below xs) e).1 i
+use Rattle.batch.proofs.Sorts.{sorted_shuffles, sorted_so}
 
 -- a list put in the place of a part as long
-module _ (m new : List ℕ) (low high i d : ℕ) (l : low ≤ high) (h : high ≤ length m) (e : length new ≡ high - low) where
-  outside_put : (i < low) ⊎ (high ≤ i) → get_or (take low m ++ (new ++ drop high m)) i d ≡ get_or m i d
+module _ (m new : List ℕ) (low high i : ℕ) (l : low ≤ high) (h : high ≤ length m) (e : length new ≡ high - low) where
+  outside_put : (i < low) ⊎ (high ≤ i) → get_or (take low m ++ (new ++ drop high m)) i 0 ≡ get_or m i 0
   outside_put (inl o) = grind (arith, places)
   outside_put (inr o) = grind (arith, places)
 
-  inside_put : low ≤ i → i < high → get_or (take low m ++ (new ++ drop high m)) i d ≡ get_or new (i - low) d
+  inside_put : low ≤ i → i < high → get_or (take low m ++ (new ++ drop high m)) i 0 ≡ get_or new (i - low) 0
   inside_put p q = grind (arith, places)
 
 module _ (m : List ℕ) (low high : ℕ) where
-  -- there is such a part, or there is none
-  pub part_there : low ≤ high → high ≤ length m → sorted_part m low high ≡ take low m ++ (sorted (between low high m) ++ drop high m)
+  abbrev new : List ℕ
+  new = sorted (between low high m)
+
+  record Part (m' : List ℕ) : Type 0 where
+    as_long : length m' ≡ length m
+    outside : (i : ℕ) → (i < low) ⊎ (high ≤ i) → get_or m' i 0 ≡ get_or m i 0
+    small : Small m → Small m'
+
+  module _ (l : low ≤ high) (h : high ≤ length m) where
+    part_there : sorted_part m low high ≡ take low m ++ (new ++ drop high m)
+    unfolding sorted_part
+    part_there = rw (le-leb low high l, le-leb high (length m) h)
+
+    length_there : length new ≡ high - low
+    length_there = length_permutation _ _ (sorted_shuffles (between low high m)) ∙ length-between m low high h
+
+    -- what a sort leaves of the memory
+    pub part_sorted : (ks : List ℕ) → IsPermutation (between low high m) ks → IsNonDecreasing ks → put_mid low (high - low) m ks ≡ sorted_part m low high
+    part_sorted ks s r =
+        let e : low + (high - low) ≡ high = omega arith in
+        rw (drop-drop (high - low) low m, e, (sorted_so (between low high m)).2 ks s r) (sym part_there)
+
+    pub part_is : between low high (sorted_part m low high) ≡ new
+    part_is =
+        rw part_there (ap (take (high - low)) (drop_at (take low m) _ low (length-take-le low m (omega arith))) ∙ take_at new (drop high m) (high - low) length_there)
+
+    small_there : Small m → Small (take low m ++ (new ++ drop high m))
+    small_there s i =
+        let out = outside_put m new low high i l h length_there in
+        elim (cases_lt i low) [
+          | inl a ↦ rw (out (inl a)) (s i)
+          | inr a ↦ elim (cases_lt i high) [
+            | inl b ↦
+                rw (inside_put m new low high i l h length_there a b)
+                (All-get_or (λ x. x < 2 ^ 64) new (i - low) 0 (omega (arith, length_there))
+                (all_shuffled (λ x. x < 2 ^ 64) (between low high m) new (sorted_shuffles (between low high m))
+                (All-from_get_or (λ x. x < 2 ^ 64) (between low high m) 0 (λ j c. let z = s (low + j) in rw (get_or-between m low high j 0 (omega (arith, length-between m low high h))) z))))
+            | inr b ↦ rw (out (inr b)) (s i)
+          ]
+        ]
+
+  part : Part (sorted_part m low high)
   unfolding sorted_part
-  part_there l h = rw (le-leb low high l, le-leb high (length m) h)
+  part =
+      cond_both (leb low high && leb high (length m)) (take low m ++ (new ++ drop high m)) m Part
+      (λ t.
+      let p = and_parts (leb low high) (leb high (length m)) t in
+      let l = leb-true low high p.0 in
+      let h = leb-true high (length m) p.1 in
+      let e = length_there l h in
+      record {
+        as_long = simp (length-append, length-take, length-drop) (omega arith);
+        outside = λ i. outside_put m new low high i l h e;
+        small = small_there l h;
+      })
+      (λ _. record { as_long = refl; outside = λ i o. refl; small = λ s. s })
 
   pub no_part : (low ≤ high → high ≤ length m → ⊥) → sorted_part m low high ≡ m
   unfolding sorted_part
   no_part n = grind (arith, nat_tests)
 
-  cases_part : ((low ≤ high) × (high ≤ length m)) ⊎ (low ≤ high → high ≤ length m → ⊥)
-  cases_part = elim (cases_lt high low) [
-    | inl k ↦ inr (λ l h. omega arith)
-    | inr l ↦ elim (cases_lt (length m) high) [ inl k ↦ inr (λ _ h. omega arith) | inr h ↦ inl (l, h) ]
-  ]
-
-  -- what a sort leaves of the memory
-  pub part_sorted : (new : List ℕ) → low ≤ high → high ≤ length m → IsPermutation (between low high m) new → IsNonDecreasing new →
-      put_mid low (high - low) m new ≡ sorted_part m low high
-  part_sorted new l h s r =
-      let e : low + (high - low) ≡ high = omega arith in
-      ap (λ (zs : List ℕ). take low m ++ (new ++ zs)) (drop-drop (high - low) low m ∙ ap (λ (n : ℕ). drop n m) e)
-      ∙ ap (λ (zs : List ℕ). take low m ++ (zs ++ drop high m)) ((sorted_so (between low high m)).2 new s r)
-      ∙ sym (part_there l h)
-
-  length_there : low ≤ high → high ≤ length m → length (sorted (between low high m)) ≡ high - low
-  length_there l h = length_permutation _ _ (sorted_shuffles (between low high m)) ∙ length-between m low high h
-
-  pub length_sorted_part : length (sorted_part m low high) ≡ length m
-  length_sorted_part = elim cases_part [
-    | inl (l, h) ↦ let e = length_there l h in rw (part_there l h) (simp (length-append, length-take, length-drop) (omega arith))
-    | inr n ↦ ap length (no_part n)
-  ]
-
-  -- outside the part all is as it was, inside it stands what is sorted
-  pub outside_part : (i d : ℕ) → (i < low) ⊎ (high ≤ i) → get_or (sorted_part m low high) i d ≡ get_or m i d
-  outside_part i d o = elim cases_part [
-    | inl (l, h) ↦ rw (part_there l h) (outside_put m (sorted (between low high m)) low high i d l h (length_there l h) o)
-    | inr n ↦ ap (λ (zs : List ℕ). get_or zs i d) (no_part n)
-  ]
-
-  pub inside_part : (i d : ℕ) → low ≤ i → i < high → high ≤ length m →
-      get_or (sorted_part m low high) i d ≡ get_or (sorted (between low high m)) (i - low) d
-  inside_part i d l k h =
-      let lh : low ≤ high = omega arith in
-      rw (part_there lh h) (inside_put m (sorted (between low high m)) low high i d lh h (length_there lh h) l k)
-
-  pub part_is : low ≤ high → high ≤ length m → between low high (sorted_part m low high) ≡ sorted (between low high m)
-  part_is l h =
-      rw (part_there l h)
-      (ap (take (high - low)) (drop_at (take low m) _ low (length-take-le low m (omega arith)))
-      ∙ take_at (sorted (between low high m)) (drop high m) (high - low) (length_there l h))
-
-  -- a column that has nothing of the part is as it was
-  pub cell_outside_part : (c : Column) (i : ℕ) → (c.base + c.size ≤ low) ⊎ (high ≤ c.base) → cell (sorted_part m low high) c i ≡ cell m c i
+-- the first numbers of a column
+module _ (c : Column) (n : ℕ) (few : n ≤ c.size) where
+  first_cells : (m : List ℕ) → c.base + c.size ≤ length m → between c.base (c.base + n) m ≡ map (cell m c) (range_with_len 0 n)
   unfolding cell
-  cell_outside_part c i (inl o) = let e = λ (k : c.base + i < low). outside_part (c.base + i) 0 (inl k) in grind (arith, nat_tests)
-  cell_outside_part c i (inr o) = let e = outside_part (c.base + i) 0 (inr (omega arith)) in grind (arith, nat_tests)
+  first_cells m l =
+      fill_by_all (cell m c) (between c.base (c.base + n) m) n 0
+      (length-between m c.base (c.base + n) (omega arith) ∙ (let z : c.base + n - c.base ≡ n = omega arith in z))
+      (λ k h. get_or-between m c.base (c.base + n) k 0 (omega arith) ∙ grind (arith, nat_tests))
 
-  -- a test that each number passes, each still does
-  every_part : (f : ℕ → Bool) → every f m ≡ true → every f (sorted_part m low high) ≡ true
-  every_part f a = elim cases_part [
-    | inl (l, h) ↦
-        let p = every_sorted f (between low high m) (every_take f (high - low) (drop low m) (every_drop f low m a)) in
-        let q = every_append f (sorted (between low high m)) (drop high m) ∙ and_from _ _ p (every_drop f high m a) in
-        rw (part_there l h) (every_append f (take low m) _ ∙ and_from _ _ (every_take f low m a) q)
-    | inr n ↦ rw (no_part n) a
-  ]
+  module _ (m : List ℕ) where
+    abbrev m' : List ℕ
+    m' = sorted_part m c.base (c.base + n)
 
-  pub small_sorted_part : Small m → Small (sorted_part m low high)
-  small_sorted_part s = every_is_small _ (every_part below (every_below m s))
+    P : Part m c.base (c.base + n) m'
+    P = part m c.base (c.base + n)
+
+    outside_column : (d : Column) (i : ℕ) → (d.base + d.size ≤ c.base) ⊎ (c.base + n ≤ d.base) → cell m' d i ≡ cell m d i
+    unfolding cell
+    outside_column d i (inl o) = let e = λ (k : d.base + i < c.base). P.outside (d.base + i) (inl k) in grind (arith, nat_tests)
+    outside_column d i (inr o) = let e = P.outside (d.base + i) (inr (omega arith)) in grind (arith, nat_tests)
+
+    pub sorted_writes : Writes (c ∷ []) m m'
+    sorted_writes = record {
+      as_long = P.as_long;
+      others = λ d i a. outside_column d i (elim (cases_lt d.base (c.base + c.size)) [
+        | inl h ↦ inl (grind (arith, nat_tests))
+        | inr h ↦ inr (omega arith)
+      ]);
+      small = P.small;
+    }
+
+    pub cells_sorted : c.base + c.size ≤ length m → map (cell m' c) (range_with_len 0 n) ≡ sorted (map (cell m c) (range_with_len 0 n))
+    cells_sorted l =
+        sym (first_cells m' (omega (arith, P.as_long))) ∙ part_is m c.base (c.base + n) (omega arith) (omega arith) ∙ ap sorted (first_cells m l)

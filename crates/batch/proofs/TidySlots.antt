@@ -14,6 +14,7 @@ use Rattle.memory.proofs.Alone.{cells_alone}
 use Rattle.memory.proofs.Footprints.{after}
 use Rattle.row.specs.declared.layout.TheConstants.{IDS}
 use Rattle.row.specs.Meaning.{row_of, cards, used, count}
+use Rattle.row.proofs.Named.{has_slot, row_used, length_slots}
 use Rattle.links.specs.Table.{edges}
 use Rattle.links.proofs.Keeping.{table_kept, edges_kept}
 use Rattle.search.specs.declared.layout.TheConstants.{FORE, HIND}
@@ -31,12 +32,12 @@ use Rattle.batch.proofs.CircleLinks.{never_kept}
 use Rattle.batch.proofs.RuleRounds.{anew_round}
 use Rattle.batch.proofs.RuleRows.{anew_ruled, ruled_cards}
 use Rattle.batch.proofs.RuleKeeps.{ruled_keeps}
-use Rattle.batch.proofs.Denseness.{length_row, has_slot, row_used, row_once}
+use Rattle.batch.proofs.Denseness.{row_once}
 use Rattle.batch.proofs.Freeing.{marks_alone}
 use Rattle.batch.proofs.MadeAnew.{renews}
 use Rattle.batch.proofs.InOrder.{arranges}
-use Rattle.batch.proofs.TidySize.{renewed_then}
-use Rattle.batch.proofs.WholeRow.{RowSeated, cards_by, row_seated}
+use Rattle.batch.proofs.Writing.{renewed_then}
+use Rattle.batch.proofs.Reseating.{RowSeated, cards_by, row_seated}
 
 -- what is so of both ends of each link, by what is so of each slot
 both_ends : (f g : ℕ → Bool) → ((s : ℕ) → f s ≡ true → g s ≡ true) → (ls : List Link) → every (λ l. f l.from && f l.to) ls ≡ true →
@@ -74,13 +75,13 @@ module _ (m : List ℕ) (long : length m ≡ MEMORY) (R : Ready m) where
   ks = row_of m₁
 
   once : distinct ks ≡ true
-  once = row_once m₁ A.dense
+  once = row_once m₁ A.dense.is_row
 
   edges₁ : edges m₁ ≡ edges m
   edges₁ = edges_kept arranging refl m m₁ A.wrote
 
   within : within_row ks (edges m)
-  within = both_ends (used m) (has ks) (λ s u. has_slot m₁ A.dense s (A.same_used s ∙ u)) (edges m) (ends_used m R)
+  within = both_ends (used m) (has ks) (λ s u. has_slot m₁ A.dense.is_row s (A.same_used s ∙ u)) (edges m) (ends_used m R)
 
   -- all come
   abbrev new : List ℕ
@@ -108,7 +109,7 @@ module _ (m : List ℕ) (long : length m ≡ MEMORY) (R : Ready m) where
   new_is = ap (λ (ls : List Link). anew ls ks) edges₁
 
   pub all_there : n ≡ count m₂
-  all_there = B.as_many ∙ ap length new_is ∙ many ∙ ap length (sym B.same_row) ∙ length_row m₂ B.dense
+  all_there = B.as_many ∙ ap length new_is ∙ many ∙ ap length (sym B.same_row) ∙ length_slots m₂ B.dense.is_row
 
   -- and are seated
   abbrev m' : List ℕ
@@ -152,7 +153,7 @@ module _ (m : List ℕ) (long : length m ≡ MEMORY) (R : Ready m) where
   slots_tidied = record {
     wrote = wrote_so;
     in_order = sym (cards_by m m₁ (λ j. A.wrote.others IDS j refl)) ∙ A.cards_are;
-    in_use = every_more (used m₁) (used m) (λ s u. sym (A.same_used s) ∙ u) ks (row_used m₁ A.dense);
+    in_use = every_more (used m₁) (used m) (λ s u. sym (A.same_used s) ∙ u) ks (row_used m₁ A.dense.is_row);
     as_many = many;
     row_is = C.row_is;
     ready = ready_so;

@@ -34,7 +34,7 @@ use Rattle.batch.specs.Saying.{noting, told_span}
 use Rattle.batch.specs.Tidying.{tidied}
 use Rattle.batch.proofs.SpanTold.{noting_writes}
 use Rattle.batch.proofs.SaidSize.{sized_several}
-use Rattle.batch.proofs.TidySize.{tidies_only}
+use Rattle.batch.proofs.Writing.{tidies_only}
 use Rattle.batch.proofs.AnewKept.{anew_kept}
 use Rattle.batch.proofs.LinksKept.{several_links_kept}
 

@@ -28,7 +28,7 @@ fn slot_at(memory: &Memory, i: u64) -> u64
 }
 
 // Puts the row into the order of the cards' numbers. It is packed first, so that the places in use are the first.
-#[tactic(auto, using(crate::proofs::ArrangeFrames::arranged_wrote), unfolding(crate::specs::Arranging::arranged_by))]
+#[tactic(auto, using(crate::proofs::Writing::arranged_wrote), unfolding(crate::specs::Arranging::arranged_by))]
 pub(crate) fn arrange(memory: &mut Memory)
     ensures is { memory.new ≡ arranged memory.old }
     ensures wrote { Writes arranging memory.old memory.new }

@@ -157,7 +157,7 @@ fn draw_all(memory: &mut Memory) -> u64
 
 // Makes the row anew by the rule: writes the slots to SPARE in the order in which they come, and says how many come; all, unless links go round. That not
 // all come is no failure: how many came is what a circle is shown by.
-#[tactic(auto, using(crate::proofs::RenewFrames::renewed_wrote), unfolding(crate::specs::Renewing::renewed))]
+#[tactic(auto, using(crate::proofs::Writing::renewed_wrote), unfolding(crate::specs::Renewing::renewed))]
 pub(crate) fn renew(memory: &mut Memory) -> u64
     ensures is { result ≡ (renewed memory.old).came }
     ensures below { result ≤ CARDS }

@@ -2,6 +2,7 @@
 ghost use Rattle.batch.specs.RuleLaws.{AnewRuled, RuledOnly, RuledCards, RuledKeeps, KeptIsRuled, AnewRound, SortedSo};
 
 // If all cards come, they come by the rule.
+#[tactic(auto, using(crate::proofs::RuleRows::anew_ruled))]
 pub fn anew_ruled_stands() -> u8
     ensures { AnewRuled }
 {
@@ -9,6 +10,7 @@ pub fn anew_ruled_stands() -> u8
 }
 
 // There is only one row by the rule.
+#[tactic(auto, using(crate::proofs::RuleRows::ruled_only))]
 pub fn ruled_only_stands() -> u8
     ensures { RuledOnly }
 {
@@ -16,6 +18,7 @@ pub fn ruled_only_stands() -> u8
 }
 
 // It has the cards of the given row, each once.
+#[tactic(auto, using(crate::proofs::RuleRows::ruled_cards))]
 pub fn ruled_cards_stands() -> u8
     ensures { RuledCards }
 {
@@ -23,6 +26,7 @@ pub fn ruled_cards_stands() -> u8
 }
 
 // It keeps all links.
+#[tactic(auto, using(crate::proofs::RuleKeeps::ruled_keeps))]
 pub fn ruled_keeps_stands() -> u8
     ensures { RuledKeeps }
 {
@@ -37,6 +41,7 @@ pub fn kept_is_ruled_stands() -> u8
 }
 
 // Not all cards come just if the links go round among them.
+#[tactic(auto, using(crate::proofs::RuleRounds::anew_round))]
 pub fn anew_round_stands() -> u8
     ensures { AnewRound }
 {

@@ -11,7 +11,7 @@ use memory::Memory;
 
 // Makes the row anew by the rule, from the order of the cards' numbers on, and says whether all cards came: they do unless links go round, which they
 // can't in a sound memory. So there is nothing to tell of a failure but that.
-#[tactic(auto, using(crate::proofs::TidySize::tidied_wrote), unfolding(crate::specs::Tidying::tidied))]
+#[tactic(auto, using(crate::proofs::Writing::tidied_wrote), unfolding(crate::specs::Tidying::tidied))]
 pub(crate) fn tidy(memory: &mut Memory) -> bool
     ensures is { result ≡ (tidied memory.old).all }
     ensures after { memory.new ≡ (tidied memory.old).memory }

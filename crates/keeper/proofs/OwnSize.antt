@@ -155,7 +155,8 @@ unfolding place_found
 place_small m k =
     given_holds Any (PlaceSmall m) (found m k) _ _ tt tt (λ s _ h.
     let z = small_cell m SEATS s (small_each m h) in
-    let l : place_at m s ≤ cell m SEATS s = amount_le (taken m) (cell m SEATS s) in
+    let c = small_cell m COUNT 0 (small_each m h) in
+    let l = placed_below m (cell m SEATS s) in
     omega arith)
 
 sized_places : (m : List ℕ) (a b : ℕ) → Sized m (shown_places m a b)

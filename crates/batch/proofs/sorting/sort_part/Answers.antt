@@ -6,7 +6,7 @@ use Rattle.batch.proofs.sorting.sort_part.Goals as goal
 pub returns-then-high-le-MEMORY : goal.returns-then-high-le-MEMORY
 returns-then-high-le-MEMORY c =
     let s = c.sort_unstable.ensures in
-    part_sorted c.args.memory.now c.args.low c.args.high c.sort_unstable.new.self (omega arith) (omega arith) s.permutation
+    part_sorted c.args.memory.now c.args.low c.args.high (omega arith) (omega arith) c.sort_unstable.new.self s.permutation
     (IsNonDecreasingBy-from_sort (λ x. x) _ s.sorted)
 
 pub returns-else-low-high : goal.returns-else-low-high

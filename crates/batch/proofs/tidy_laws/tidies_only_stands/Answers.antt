@@ -1,4 +1,4 @@
-use Rattle.batch.proofs.TidySize.{tidies_only}
+use Rattle.batch.proofs.Writing.{tidies_only}
 use Rattle.batch.proofs.tidy_laws.tidies_only_stands.Goals as goal
 
 pub returns : goal.returns
