@@ -120,8 +120,8 @@ word_is m first end i h l =
 pub ones_none : (w : ℕ) → ones (w % 2 ^ 0) ≡ 0
 ones_none w = let z : w % 2 ^ 0 ≡ 0 = omega arith in ap ones z ∙ ones_bit 0 (omega arith)
 
--- a place is no more than a seat, or the cards
-pub placed_below : (m : List ℕ) (p : ℕ) → placed m p ≤ p + count m
+-- a place is no more than the seat, or than the cards
+pub placed_below : (m : List ℕ) (p b : ℕ) → p < b → count m < b → placed m p < b
 unfolding placed
-placed_below m p =
-    let l = rank_le m p in cond_both (ltb p (ending m / 2)) (rank m p) _ (λ (x : ℕ). x ≤ p + count m) (λ _. omega arith) (λ _. omega arith)
+placed_below m p b l k =
+    let r = rank_le m p in cond_both (ltb p (ending m / 2)) (rank m p) _ (λ (x : ℕ). x < b) (λ _. omega arith) (λ _. omega arith)
