@@ -6,7 +6,7 @@ use Rattle.memory.specs.declared.column.Column.{Column}
 use Rattle.memory.specs.Columns.{cell, written}
 use Rattle.memory.specs.Options.{given}
 use Rattle.memory.specs.Footprints.{Writes}
-use Rattle.memory.specs.PlaceSets.{digit, bit, marked, flipped, toggled, fresh, added, word_up, cleared, untopped, wiped}
+use Rattle.memory.specs.PlaceSets.{digit, bit, marked, flipped, toggled, fresh, added, removed, word_up, cleared, untopped, wiped}
 use Rattle.memory.specs.PlaceSetLaws.{CellsAlone}
 use Rattle.memory.proofs.Cells.{small_cell}
 use Rattle.memory.proofs.Footprints.{same, on, either, put_one}
@@ -16,10 +16,17 @@ module _ (c : Column) where
   unfolding flipped
   writes_flipped m s i = put_one m c _ _ (λ a. xor_lt 64 _ _ (small_cell m c (s + i / 64) a) (pow_below (i % 64) 64 (omega arith)))
 
+  writes_toggled : (m : List ℕ) (p : ℕ) → Writes (c ∷ []) m (toggled m c p)
+  unfolding toggled
+  writes_toggled m p = let w = writes_flipped m 0 p in either _ m _ _ _ (on _ m _ _ w (writes_flipped _ WORDS (p / 64))) w
+
   pub writes_added : (m : List ℕ) (p : ℕ) → Writes (c ∷ []) m (added m c p)
-  unfolding added toggled
-  writes_added m p =
-      let w = writes_flipped m 0 p in either _ m (fresh m c p) _ _ (either _ m _ _ _ (on _ m _ _ w (writes_flipped _ WORDS (p / 64))) w) (same _ m)
+  unfolding added
+  writes_added m p = either _ m (fresh m c p) _ _ (writes_toggled m p) (same _ m)
+
+  pub writes_removed : (m : List ℕ) (p : ℕ) → Writes (c ∷ []) m (removed m c p)
+  unfolding removed
+  writes_removed m p = either _ m (marked m c p) _ _ (writes_toggled m p) (same _ m)
 
   zeroed : (m : List ℕ) (i : ℕ) → Writes (c ∷ []) m (written m c i 0)
   zeroed m i = put_one m c i 0 (λ _. omega arith)
