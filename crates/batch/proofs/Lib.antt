@@ -1,9 +1,7 @@
 pub mod Trying
 pub mod Spanning
 pub mod SaidSize
-pub mod Beginnings
-pub mod PlayedOn
-pub mod Joins
+pub mod PlayedRun
 pub mod Tries
 pub mod SpanTold
 pub mod Runs
@@ -11,7 +9,6 @@ pub mod Simulation
 pub mod Wholly
 pub mod AnewKept
 pub mod LinksKept
-pub mod PlayedRun
 pub mod Counted
 pub mod CardsThere
 pub mod Within
@@ -44,9 +41,7 @@ pub mod LookUps
 pub mod InOrder
 pub mod TidySlots
 pub mod Tidies
-pub mod TriedFrames
 pub mod Undoing
-pub mod SeatedBack
 pub mod ReadyAgain
 pub mod LoadSteps
 pub mod CircleSteps

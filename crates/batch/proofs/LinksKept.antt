@@ -175,7 +175,8 @@ module _ (m : List ℕ) (r : Board) (ls : List Link) (long : length m ≡ MEMORY
           refused_so m r ls _ (run_is _ closes_so ∙ first_round k board_same.long S.way) Cycle (rw (few, there, fresh, round) refl)
           (refl, refl, (λ _. (S.way, refl, S.round)), λ n. absurd (n refl))
           (record {
-            means = subst (Means (leaves_pending (leaves_pending k 2) 0)) (sym board_same.is) (settles k (leaves_pending k 2) board_same.ready board_same.single board_same.long (noted k k 2 (omega arith) (same columns k)));
+            means = subst (Means (leaves_pending (leaves_pending k 2) 0)) (sym board_same.is)
+                (settles k (leaves_pending k 2) board_same.ready board_same.single board_same.long (noted k k 2 (omega arith) (same columns k)));
             few = K.few;
           })
 
@@ -197,7 +198,8 @@ module _ (m : List ℕ) (r : Board) (ls : List Link) (long : length m ≡ MEMORY
           ∙ ap (λ (b : Board). length b.links) (sym N.is) ∙ length-append r.links ls
 
       brings : (o₁ : Option Span) (b : Bool) → o ≡ o₁ → leb (live t.memory) LINKS ≡ b →
-          said_several m ls ≡ cond b (given o₁ (quiet (ends (Ok IsDone) t.memory)) (λ s. told_span t.memory s)) (quiet (refuses (undone t.memory ls o₁) Full))
+          said_several m ls
+          ≡ cond b (given o₁ (quiet (ends (Ok IsDone) t.memory)) (λ s. told_span t.memory s)) (quiet (refuses (undone t.memory ls o₁) Full))
       unfolding by_trial brought
       brings o₁ b e h = said_is ∙ rw (A.no_way, h, e) refl
 

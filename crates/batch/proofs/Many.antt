@@ -1,5 +1,5 @@
 -- How many of a list pass a test.
-use Rattle.std.proofs.Common.{◌≡◌, ℕ, suc, ◌+◌, ◌≤◌, Bool, true, cond, not, ◌&&◌, eqb, List, [], ◌∷◌, ◌++◌, map, reverse, length, sym, refl, ap, ◌∙◌, ap₂, inl, inr, arith, length-append}
+use Rattle.std.proofs.Common.{◌≡◌, ℕ, suc, ◌+◌, Bool, true, cond, not, ◌&&◌, eqb, List, [], ◌∷◌, ◌++◌, map, reverse, length, sym, refl, ap, ◌∙◌, ap₂, inl, inr, arith, length-append}
 use mathlib.Core.List.{reverse-cons}
 use Rattle.std.proofs.lemmas.Bool.{cases_Bool, and_parts}
 use Rattle.std.proofs.lemmas.Bool.Decides.{nat_tests}
@@ -20,11 +20,6 @@ pub many_push : {A : Type 0} (f : A → Bool) (xs : List A) (x : A) → many f (
 unfolding filter
 many_push f xs x =
     ap length (filter_append f xs (x ∷ [])) ∙ length-append (filter f xs) (filter f (x ∷ [])) ∙ ap (λ (k : ℕ). many f xs + k) (many_cons f x [] ∙ (omega arith))
-
-pub many_few : {A : Type 0} (f : A → Bool) (xs : List A) → many f xs ≤ length xs
-unfolding filter
-many_few f [] = omega arith
-many_few f (x ∷ xs) = let ih = many_few f xs in elim (cases_Bool (f x)) [ inl e ↦ rw e (omega arith) | inr e ↦ rw e (omega arith) ]
 
 pub many_any : {A : Type 0} (f : A → Bool) (xs : List A) → any f xs ≡ not (eqb (many f xs) 0)
 unfolding filter any

@@ -53,11 +53,13 @@ module _ (m : List ℕ) (long : NUMBERS.base + NUMBERS.size ≤ length m) where
             looked = i;
             late = z;
             into = sym y;
-            is = ap (λ (k : ℕ). cell (written n NUMBERS k (x / CARDS)) NUMBERS t) (sym y) ∙ cell_same n NUMBERS t (x / CARDS) low (omega (arith, long, w.as_long));
+            is = ap (λ (k : ℕ). cell (written n NUMBERS k (x / CARDS)) NUMBERS t) (sym y)
+                ∙ cell_same n NUMBERS t (x / CARDS) low (omega (arith, long, w.as_long));
           })
           | inr y ↦
               let o = before (λ _ e. y (sym e)) in
-              rw (s, z) (record { link = o.link; looked = o.looked; late = o.late; into = o.into; is = cell_other n NUMBERS (x % CARDS) t (x / CARDS) y ∙ o.is })
+              let e = cell_other n NUMBERS (x % CARDS) t (x / CARDS) y ∙ o.is in
+              rw (s, z) (record { link = o.link; looked = o.looked; late = o.late; into = o.into; is = e })
         ]
         | inr z ↦ rw (s, z) (before (λ e _. absurd (both_ways _ z e)))
       ]

@@ -1,39 +1,102 @@
--- A saying that is played goes as it runs on the engine: the same memory after it, refused for the reason by which the run ended, and what the run shows stands
--- at the front of the output.
-use Rattle.std.proofs.Common.{◌≡◌, ℕ, zero, suc, ◌≤◌, true, List, [], length, sym, refl, ◌∙◌, subst, arith, Ok, Err, Result, ◌∷◌, ◌++◌, take, Some, ap, length-append, length-take}
-use lib.ListN.{length-replicate}
-use Rattle.std.proofs.lemmas.Bool.Decides.{nat_tests as tests}
+-- A step is taken if the memory and the output fit, else nothing is changed. A saying that is played goes as it runs on the engine: the same memory
+-- after it, refused for the reason by which the run ended, and what the run shows stands at the front of the output.
+use Rattle.std.proofs.Common.{◌≡◌, ℕ, zero, suc, List, Result, refl, ap, ◌∙◌, ◌≤◌, Bool, true, false, ◌++◌, length, take, drop, Err, sym, ap₂, arith, [], subst, Ok, ◌∷◌, Some, length-append, length-take}
+use mathlib.Core.Path.{fun_ext}
+use Rattle.keeper.specs.declared.event.Event.TheVariants.{Next}
+use Rattle.keeper.specs.declared.event.Reason.{Reason}
+use Rattle.keeper.specs.declared.event.Act.{Act}
+use Rattle.keeper.specs.declared.event.Telling.TheVariants.{PassedOver, Written}
+use Rattle.keeper.specs.Playing.{Stepped, StepsTo, stepped as keeper_stepped, Ending, by_act, plays as keeper_plays, played_on, fronted}
+use Rattle.keeper.proofs.PlayedOn.{stepped_to}
+use Rattle.batch.specs.Engine.{Heard, next, said, runs, run_of, Saying, one, several, anew}
+use Rattle.batch.specs.Own.{answer, guarded, StepBy, StepSays, steps, own}
+use Rattle.batch.specs.Playing.{stepped, plays, played}
+use Rattle.std.proofs.lemmas.Bool.Decides.{nat_tests, nat_tests as tests}
 use Rattle.memory.specs.declared.column.TheConstants.{MEMORY}
-use Rattle.command.specs.Commands.{Told, refusal}
 use Rattle.keeper.specs.declared.layout.TheConstants.{OUTPUT, TOLD}
-use Rattle.keeper.specs.declared.event.Telling.TheVariants.{PassedOver}
-use Rattle.keeper.specs.Answers.{as_told, written_out}
+use Rattle.keeper.specs.declared.event.Reason.TheVariants.{Unfit}
+use Rattle.keeper.specs.Engine.{action_of, Ran, one_act}
+use Rattle.keeper.specs.declared.event.Telling.{Telling}
+use Rattle.keeper.specs.Answers.{Gives, written_out, as_told}
 use Rattle.keeper.specs.Own.{step_fits}
-use Rattle.keeper.specs.Playing.{fronted, by_act, Ending}
+use Rattle.keeper.proofs.Fitting.{other_size, short_out}
+use Rattle.keeper.proofs.Writing.{written_few}
+use Rattle.keeper.proofs.Room.{front_stands}
+use Rattle.batch.proofs.SaidSize.{few}
+use Rattle.batch.proofs.Wholly.{own_fits, whole_in_own, sized, each}
+use lib.ListN.{length-replicate}
+use Rattle.command.specs.Commands.{Told, refusal}
 use Rattle.keeper.specs.Meaning.{Means}
 use Rattle.keeper.proofs.PlayedRun.{Agrees, neither, high, act_agrees, long_fronted}
-use Rattle.batch.specs.Engine.{Heard, said, next, runs, run_of, Saying, one, several, anew}
 use Rattle.batch.specs.Promise.{small_heard, after, refused_for, shown_so, ToldSo, RoundSo, Done as DoneSo, Refused as RefusedSo, small_saying}
-use Rattle.batch.specs.Own.{answer, steps, guarded, own}
-use Rattle.batch.specs.Playing.{stepped, plays, played}
 use Rattle.batch.specs.PlayLaws.{Plays, PlaysUnfit, ShowsJust, front, PlaysShows}
 use Rattle.keeper.specs.Promise.{all_small, shown_for, RoundShown}
 use Rattle.order.specs.declared.board.TheConstants.{LINKS}
 use Rattle.batch.proofs.Simulation.{StepKept}
-use Rattle.batch.proofs.Wholly.{sized, each}
 use Rattle.std.proofs.lemmas.List.{take_all, take_at}
 use Rattle.std.proofs.lemmas.Bool.{le-leb}
 use Rattle.command.specs.declared.command.Command.TheVariants.{Comes, Goes, Link as Links, Unlink as Unlinks, Places}
 use Rattle.order.specs.declared.board.Refusal.TheVariants.{Cycle}
 use Rattle.order.specs.Board.{Board}
 use Rattle.order.specs.Reordering.{link_refusal}
-use Rattle.keeper.specs.declared.event.Act.{Act}
-use Rattle.keeper.specs.declared.event.Reason.{Reason}
 use Rattle.keeper.specs.declared.event.Act.TheVariants.{Tells, Shows, Done}
-use Rattle.keeper.specs.Engine.{action_of, Ran, one_act}
 use Rattle.keeper.specs.Sister.{ToldNeeded}
 use Rattle.keeper.proofs.Ends.{Go}
 use Rattle.batch.proofs.Counted.{CountedBy, counted}
+
+goes_same : (n : ℕ) → ◌≡◌ {A = List ℕ → List ℕ → ℕ → Ending} (λ m out s. plays n m next out s) (λ m out s. keeper_plays n m Next out s)
+unfolding plays keeper_plays stepped keeper_stepped answer
+goes_same zero = refl
+goes_same (suc n) =
+    fun_ext (λ m. fun_ext (λ out. fun_ext (λ s.
+    let x = keeper_stepped PassedOver m Next out in
+    ap (λ (go : List ℕ → List ℕ → ℕ → Ending). by_act go x.memory x.out s x.act) (goes_same n))))
+
+pub plays_first : (n : ℕ) (m : List ℕ) (h : Heard) (out : List ℕ) (r : Result Act Reason) (m₁ out₁ : List ℕ) (s : ℕ) →
+    StepsTo (stepped PassedOver m h out) r m₁ out₁ → plays (suc n) m h out s ≡ played_on n m₁ r out₁ s
+unfolding plays
+plays_first n m h out r m₁ out₁ s t =
+    ap (λ (x : Stepped). by_act (λ m₂ out₂ s₂. plays n m₂ next out₂ s₂) x.memory x.out s x.act) (stepped_to (stepped PassedOver m h out) r m₁ out₁ t)
+    ∙ ap (λ (go : List ℕ → List ℕ → ℕ → Ending). by_act go m₁ out₁ s r) (goes_same n)
+
+-- a step whose answer is given in the front of the output
+pub took : (w : Telling) (m : List ℕ) (h : Heard) (out : List ℕ) (r : Result Act Reason) (m₁ front₁ : List ℕ) → length m ≡ MEMORY → OUTPUT ≤ length out →
+    Gives (as_told w (answer m h)) (take OUTPUT out) r m₁ front₁ → StepsTo (stepped w m h out) r m₁ (front₁ ++ drop OUTPUT out)
+unfolding stepped as_told
+took w m h out r m₁ front₁ e u g =
+    let f : step_fits m out ≡ true = grind (arith, nat_tests) in
+    let ks = (as_told w (answer m h)).numbers in
+    let l : length ks ≤ OUTPUT = omega (arith, written_few w (answer m h).act (answer m h).numbers, few m h) in
+    rw f (record {
+      act = g.act;
+      after = g.after;
+      out = ap (λ (xs : List ℕ). xs ++ drop OUTPUT out) g.out ∙ front_stands OUTPUT ks out l u;
+    })
+
+pub untook : (w : Telling) (m : List ℕ) (h : Heard) (out : List ℕ) → step_fits m out ≡ false → StepsTo (stepped w m h out) (Err Unfit) m out
+unfolding stepped
+untook w m h out f = rw f (record { act = refl; after = refl; out = refl })
+
+pub ruleset fitting = (took, untook, other_size, short_out)
+
+-- a step of which all is written is the engine's
+says : (b : Bool) (m : List ℕ) (h : Heard) (out : List ℕ) (r : Result Act Reason) (m₁ out₁ : List ℕ) → step_fits m out ≡ b →
+    StepsTo (stepped Written m h out) r m₁ out₁ → StepBy b m h out r m₁ out₁
+unfolding stepped as_told written_out StepBy guarded
+says true m h out r m₁ out₁ f = rw f (λ t. record {
+  act = t.act;
+  after = t.after;
+  out = t.out;
+  own_step = λ q. rw q
+      (ap₂ (λ (y : Result Act Reason) (z : List ℕ). record { memory = z; action = action_of y (answer m h).numbers }) (sym t.act) (sym t.after));
+})
+says false m h out r m₁ out₁ f = rw f (λ t. record { act = t.act; after = t.after; out = t.out })
+
+pub written_says : (m : List ℕ) (h : Heard) (out : List ℕ) (r : Result Act Reason) (m₁ out₁ : List ℕ) → StepsTo (stepped Written m h out) r m₁ out₁ →
+    StepSays m h out r m₁ out₁
+written_says m h out r m₁ out₁ = says (step_fits m out) m h out r m₁ out₁ refl
+
+pub ruleset beginnings = (written_says, own_fits, whole_in_own)
 
 pub stepped_fits : (m : List ℕ) (h : Heard) (out : List ℕ) → length m ≡ MEMORY → OUTPUT ≤ length out →
     stepped PassedOver m h out

@@ -1,26 +1,24 @@
 -- A part of the row that a span names is told, and the memory then means the board that it meant before.
-use Rattle.std.proofs.Common.{◌≡◌, ℕ, ◌^◌, ◌<◌, ◌≤◌, true, List, [], length, sym, refl, ap, ◌∙◌, subst, ap₂, arith}
+use Rattle.std.proofs.Common.{◌≡◌, ℕ, ◌^◌, ◌<◌, ◌≤◌, true, List, [], length, sym, refl, ap, ◌∙◌, subst, arith}
 use Rattle.order.specs.declared.board.TheConstants.{CARDS}
 use Rattle.order.specs.Lists.{every}
 use Rattle.order.specs.Board.{Board}
-use Rattle.memory.specs.Columns.{cell, written}
+use Rattle.memory.specs.Columns.{written}
 use Rattle.command.specs.Commands.{Told, told_rows}
 use Rattle.memory.specs.Footprints.{Small}
 use Rattle.memory.proofs.Footprints.{same, on, put}
 use Rattle.row.proofs.Present.{length_cards, few_cards}
 use Rattle.row.specs.Meaning.{cards}
-use Rattle.memory.proofs.Cells.{cell_same, cell_apart, length_written}
 use Rattle.search.specs.Meaning.{Ready}
-use Rattle.keeper.specs.declared.layout.TheConstants.{PENDING, MORE_FROM, MORE_TO}
+use Rattle.keeper.specs.declared.layout.TheConstants.{MORE_FROM, MORE_TO}
 use Rattle.keeper.specs.Columns.{columns}
 use Rattle.keeper.specs.Engine.{ran}
-use Rattle.keeper.specs.Answers.{pending, leaves_pending}
-use Rattle.keeper.specs.Telling.{told_part}
+use Rattle.keeper.specs.Answers.{leaves_pending}
 use Rattle.keeper.specs.Sister.{within}
 use Rattle.keeper.specs.Meaning.{Means}
-use Rattle.keeper.proofs.Carrying.{Noted, noted, noted_ready, settles, is_pending, same_row}
+use Rattle.keeper.proofs.Carrying.{Noted, noted, noted_ready, settles, same_row}
 use Rattle.keeper.proofs.Parts.{Anew}
-use Rattle.keeper.proofs.ToldRuns.{from_first, ToldOut, told_run, went_more}
+use Rattle.keeper.proofs.ToldRuns.{from_first, ToldOut, told_run, went_noted}
 use Rattle.batch.specs.declared.seating.Span.{Span}
 use Rattle.batch.specs.Saying.{noting, told_span}
 
@@ -53,26 +51,6 @@ module _ (m : List ℕ) (b : Board) (M : Means m b) (s : Span) (up : s.low ≤ s
   N : Noted m k
   N = noting_writes m s (λ _. omega (arith, up, low, room)) (λ _. omega (arith, low, room))
 
-  is_more : pending k ≡ 3
-  unfolding noting
-  is_more =
-      let n = leaves_pending m 3 in
-      cell_apart (written n MORE_FROM 0 s.low) MORE_TO PENDING 0 0 s.high refl ∙ cell_apart n MORE_FROM PENDING 0 0 s.low refl ∙ is_pending m M.long 3
-
-  from_is : cell k MORE_FROM 0 ≡ s.low
-  unfolding noting
-  from_is =
-      let n = leaves_pending m 3 in
-      cell_apart (written n MORE_FROM 0 s.low) MORE_TO MORE_FROM 0 0 s.high refl
-      ∙ cell_same n MORE_FROM 0 s.low (omega arith) (omega (arith, M.long, length_written m PENDING 0 3))
-
-  to_is : cell k MORE_TO 0 ≡ s.high
-  unfolding noting
-  to_is =
-      let n = leaves_pending m 3 in
-      cell_same (written n MORE_FROM 0 s.low) MORE_TO 0 s.high (omega arith)
-      (omega (arith, M.long, length_written m PENDING 0 3, length_written n MORE_FROM 0 s.low))
-
   same_cards : cards k ≡ b.row
   same_cards = (same_row columns m k N refl).same_cards ∙ ap (λ (x : Board). x.row) (sym M.is)
 
@@ -82,11 +60,15 @@ module _ (m : List ℕ) (b : Board) (M : Means m b) (s : Span) (up : s.low ≤ s
       let e = ap length same_cards in
       told_run k S (omega (arith, M.long, N.as_long)) s.low s.high up (omega (arith, low, length_cards k S))
 
+  ran_so : from_first (told_span m s) ≡ ran (leaves_pending T.memory 0) T.parts [] 0
+  unfolding noting
+  ran_so = ap from_first (went_noted m M.long s.low s.high) ∙ T.run
+
   pub span_told : ToldSo m b s
   span_told = record {
     memory = leaves_pending T.memory 0;
     parts = T.parts;
-    run = ap from_first (went_more k is_more ∙ ap₂ (told_part k) from_is to_is) ∙ T.run;
+    run = ran_so;
     means = subst (Means (leaves_pending T.memory 0)) (sym M.is) (settles m T.memory R M.single M.long (on columns m k T.memory N T.only));
     makes = λ row a. T.makes row (subst (λ (xs : List ℕ). Anew row xs s.low s.high) (sym same_cards) a) ∙ same_cards;
     inside = T.inside;

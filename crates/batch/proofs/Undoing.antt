@@ -39,8 +39,8 @@ use Rattle.batch.specs.Saying.{undone}
 use Rattle.batch.proofs.Saving.{saves, saved_writes}
 use Rattle.batch.proofs.Denseness.{few}
 use Rattle.batch.proofs.SeveralBetween.{several_between, SameEnds, ends_within}
-use Rattle.batch.proofs.TriedFrames.{tried_columns, Trying, tried_so, taken_out_writes}
-use Rattle.batch.proofs.SeatedBack.{row_count, Aside, seated_back}
+use Rattle.batch.proofs.SaidSize.{tried_columns, Trying, tried_so, taken_out_writes}
+use Rattle.batch.proofs.ReadyAgain.{row_count, Aside, seated_back}
 
 -- a link that is there once, taken out of a list
 none_out : (x : Link) (xs : List Link) → any (joins x) xs ≡ false → filter (λ y. not (joins x y)) xs ≡ xs

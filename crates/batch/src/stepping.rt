@@ -35,7 +35,7 @@ fn hear(
 }
 
 // One step as `step` takes it, but that what is told may be passed over.
-#[tactic(auto, using(crate::proofs::Beginnings::fitting))]
+#[tactic(auto, using(crate::proofs::PlayedRun::fitting))]
 #[inline(always)]
 pub(crate) fn step_as(
     memory: &mut [u64],
@@ -57,7 +57,7 @@ pub(crate) fn step_as(
 
 // One step: the answer to an event, the memory after it, and what is told or shown at the front of `out`. The batch is read only for `Several`. The
 // engine whose steps these are meets the promise within three steps; whatever stands in the memory, its answers fit.
-#[tactic(auto, using(crate::proofs::Beginnings::beginnings))]
+#[tactic(auto, using(crate::proofs::PlayedRun::beginnings))]
 pub fn step(
     memory: &mut [u64],
     event: Event,

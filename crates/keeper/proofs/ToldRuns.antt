@@ -16,7 +16,8 @@ use Rattle.keeper.specs.declared.layout.TheConstants.{TOLD, PENDING, MORE_FROM, 
 use Rattle.keeper.specs.declared.event.Event.TheVariants.{Next}
 use Rattle.keeper.specs.Columns.{columns}
 use Rattle.keeper.specs.Engine.{tells, done, Ran, ran, action_of, one_act, runs}
-use Rattle.keeper.specs.Answers.{Answer, pending, leaves_pending}
+use Rattle.keeper.specs.Answers.{Answer, pending, leaves_pending, noted as noting}
+use Rattle.keeper.specs.declared.pending.Pending.TheVariants.{More}
 use Rattle.keeper.specs.Sister.{within}
 use Rattle.keeper.specs.Telling.{middle, left_to_tell, telling, told_part}
 use Rattle.keeper.specs.Own.{went_on, own}
@@ -56,9 +57,21 @@ rest_some : (m : List ℕ) (p j : ℕ) → p < j → left_to_tell m p j ≡ writ
 unfolding left_to_tell
 rest_some m p j h = rw (lt-ltb p j h)
 
-pub went_more : (m : List ℕ) → pending m ≡ 3 → went_on m ≡ told_part m (cell m MORE_FROM 0) (cell m MORE_TO 0)
+went_more : (m : List ℕ) → pending m ≡ 3 → went_on m ≡ told_part m (cell m MORE_FROM 0) (cell m MORE_TO 0)
 unfolding went_on
 went_more m e = rw (eq-eqb (pending m) 3 e)
+
+-- a part that is noted to be told is
+pub went_noted : (m : List ℕ) → MORE_TO.base + MORE_TO.size ≤ length m → (i j : ℕ) →
+    went_on (noting m (More i j)) ≡ told_part (noting m (More i j)) i j
+went_noted m l i j =
+    let n = leaves_pending m 3 in
+    let k = written n MORE_FROM 0 i in
+    let e = length_written m PENDING 0 3 in
+    went_more (noting m (More i j)) (cell_apart k MORE_TO PENDING 0 0 j refl ∙ cell_apart n MORE_FROM PENDING 0 0 i refl ∙ is_pending m l 3)
+    ∙ ap₂ (told_part (noting m (More i j)))
+    (cell_apart k MORE_TO MORE_FROM 0 0 j refl ∙ cell_same n MORE_FROM 0 i (omega arith) (omega arith))
+    (cell_same k MORE_TO 0 j (omega arith) (omega (arith, length_written n MORE_FROM 0 i)))
 
 -- the action of telling so many from a place on
 told_action : (k : List ℕ) (S : IsRow k) (p n : ℕ) → p + n ≤ count k → tells p (take n (middle k p n)) ≡ tells p (take n (drop p (cards k)))
@@ -123,19 +136,6 @@ module _ (k : List ℕ) (S : IsRow k) (long : MORE_TO.base + MORE_TO.size ≤ le
     long₄ : MORE_TO.base + MORE_TO.size ≤ length k₄
     long₄ = let e = N.as_long in omega arith
 
-    is_more : pending k₄ ≡ 3
-    is_more = cell_apart _ MORE_TO PENDING 0 0 hi refl ∙ cell_apart _ MORE_FROM PENDING 0 0 mid refl ∙ is_pending k long 3
-
-    from_is : cell k₄ MORE_FROM 0 ≡ mid
-    from_is =
-        cell_apart _ MORE_TO MORE_FROM 0 0 hi refl
-        ∙ cell_same (leaves_pending k 3) MORE_FROM 0 mid (omega arith) (omega (arith, length_written k PENDING 0 3))
-
-    to_is : cell k₄ MORE_TO 0 ≡ hi
-    to_is =
-        cell_same (written (leaves_pending k 3) MORE_FROM 0 mid) MORE_TO 0 hi (omega arith)
-        (omega (arith, length_written k PENDING 0 3, length_written (leaves_pending k 3) MORE_FROM 0 mid))
-
     abbrev d : ℕ
     d = hi - mid
 
@@ -147,7 +147,7 @@ module _ (k : List ℕ) (S : IsRow k) (long : MORE_TO.base + MORE_TO.size ≤ le
         let f = few in
         let c = S₄.same_count in
         step_next k₄ (telling k₄ mid d hi)
-        (went_more k₄ is_more ∙ ap₂ (told_part k₄) from_is to_is ∙ told_is k₄ mid hi d (omega arith) (omega arith) (omega arith) (omega arith))
+        (went_noted k long mid hi ∙ told_is k₄ mid hi d (omega arith) (omega arith) (omega arith) (omega arith))
         ∙ ap₂ steps_to (rest_none k₄ (mid + d) hi (omega arith))
         (told_action k₄ (S₄.is_row S) mid d (omega arith) ∙ ap (λ (zs : List ℕ). tells mid (take d (drop mid zs))) same_cards)
 

@@ -3,7 +3,7 @@ use Rattle.order.specs.declared.board.TheConstants.{CARDS}
 use Rattle.keeper.specs.Answers.{Gives, as_told}
 use Rattle.batch.specs.Engine.{heard}
 use Rattle.batch.specs.Own.{answer}
-use Rattle.batch.proofs.Beginnings.{took}
+use Rattle.batch.proofs.PlayedRun.{took}
 use Rattle.batch.proofs.stepping.step_as.Goals as goal
 
 pub returns : goal.returns
