@@ -55,7 +55,6 @@ pub mod MadeAnew
 pub mod LoopSteps
 pub mod LookUps
 pub mod InOrder
-pub mod TidySlots
 pub mod Tidies
 pub mod TriedFrames
 pub mod TakingOut
