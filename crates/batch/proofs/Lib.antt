@@ -64,15 +64,12 @@ pub mod SeatedBack
 pub mod SavedMeans
 pub mod Undoing
 pub mod CircleSteps
-pub mod MakingSteps
 pub mod StepsBack
 pub mod RoundTrail
 pub mod RuleLeft
 pub mod Noting
 pub mod CircleShown
 pub mod LinksIn
-pub mod CircleRenames
-pub mod AnewShown
 pub mod MakesAnew
 pub mod Anys
 pub mod Denseness

@@ -51,7 +51,7 @@ use Rattle.batch.proofs.Sorts.{distinct_sorted}
 use Rattle.batch.proofs.Writing.{renewed_then}
 
 -- what is so of both ends of each link, by tests that say the same
-both_ends : (f g : ℕ → Bool) (ls : List Link) → ((s : ℕ) → f s ≡ g s) → every (λ l. g l.from && g l.to) ls ≡ true → every (λ l. f l.from && f l.to) ls ≡ true
+pub both_ends : (f g : ℕ → Bool) (ls : List Link) → ((s : ℕ) → f s ≡ g s) → every (λ l. g l.from && g l.to) ls ≡ true → every (λ l. f l.from && f l.to) ls ≡ true
 both_ends f g ls e h = ap (λ (k : ℕ → Bool). every (λ (l : Link). k l.from && k l.to) ls) (λ t s. e s t) ∙ h
 
 -- if a row keeps the links, all cards of another come
