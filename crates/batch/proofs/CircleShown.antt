@@ -30,7 +30,7 @@ use Rattle.batch.specs.Rule.{anew}
 use Rattle.batch.specs.RuleLaws.{within_row}
 use Rattle.batch.specs.Circling.{flagged, stays, noted, traced, first_left, start, back, on_circle, round}
 use Rattle.batch.specs.MakingAnew.{new_row}
-use Rattle.batch.proofs.RuleLeft.{left_waits, one_not}
+use Rattle.batch.proofs.RuleRounds.{left_waits, one_not}
 use Rattle.batch.proofs.Counting.{pairs, any_pairs}
 use Rattle.batch.proofs.Denseness.{few, row_is, row_once, slot_used}
 use Rattle.batch.proofs.LinkByLink.{along_writes, along_fold}

@@ -40,7 +40,7 @@ use Rattle.batch.proofs.Freeing.{Tidy, Waiting, waiting_same, marks_alone, walks
 use Rattle.batch.proofs.Lefts.{Part, part_has, part_without}
 use Rattle.batch.proofs.LinkByLink.{labels, along_writes, along_fold}
 use Rattle.batch.proofs.Many.{many, many_any, many_parts, many_reverse, many_map, many_filter, has_reverse}
-use Rattle.batch.proofs.RuleSteps.{waits_from}
+use Rattle.batch.proofs.RuleRows.{waits_from}
 use Rattle.batch.proofs.Within.{has_without, without_has, every_in}
 use Rattle.batch.proofs.Writing.{marking, lessening, lessened_writes, own}
 

@@ -36,9 +36,7 @@ pub mod SeveralSingle
 pub mod SeveralOrder
 pub mod Within
 pub mod GoingBack
-pub mod RuleSteps
 pub mod RuleRows
-pub mod RuleKeeps
 pub mod RuleRounds
 pub mod Sorts
 pub mod RuleRenames
@@ -66,7 +64,6 @@ pub mod Undoing
 pub mod CircleSteps
 pub mod StepsBack
 pub mod RoundTrail
-pub mod RuleLeft
 pub mod Noting
 pub mod CircleShown
 pub mod LinksIn

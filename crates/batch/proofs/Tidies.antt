@@ -1,11 +1,11 @@
 -- The row was tidied: the memory means the board with the cards as they come by the rule from the order of their numbers on.
-use Rattle.std.proofs.Common.{◌≡◌, ℕ, ◌+◌, ◌≤◌, min, Bool, true, ◌&&◌, List, map, length, sym, refl, ap, ◌∙◌, ap₂, inl, inr, arith}
+use Rattle.std.proofs.Common.{◌≡◌, ℕ, ◌+◌, ◌≤◌, min, Bool, true, ◌&&◌, List, map, length, sym, refl, ap, ◌∙◌, ap₂, arith}
 use lib.ListN.{length-map}
-use Rattle.std.proofs.lemmas.Bool.{cases_lt, le-ltb}
+use Rattle.std.proofs.lemmas.Bool.{le-ltb}
 use Rattle.order.specs.declared.board.TheConstants.{CARDS}
 use Rattle.order.specs.declared.board.Link.{Link}
 use Rattle.order.specs.Lists.{every, has, distinct}
-use Rattle.order.specs.Board.{Board, keeps, fine}
+use Rattle.order.specs.Board.{Board, fine}
 use Rattle.order.specs.Renaming.{renamed, Naming}
 use Rattle.order.proofs.Climbs.{fine_parts, fine_from}
 use Rattle.order.proofs.Filters.{every_more}
@@ -37,31 +37,20 @@ use Rattle.batch.specs.Renewing.{renewed}
 use Rattle.batch.specs.RenewLaws.{MadeAnew}
 use Rattle.batch.specs.Tidying.{Tidied, tidied}
 use Rattle.batch.specs.TidyLaws.{row_made, RowTidy, Tidies}
-use Rattle.batch.proofs.CircleLinks.{never_kept}
 use Rattle.batch.proofs.Denseness.{row_once}
 use Rattle.batch.proofs.Freeing.{marks_alone}
 use Rattle.batch.proofs.InOrder.{arranges}
 use Rattle.batch.proofs.MadeAnew.{renews}
 use Rattle.batch.proofs.Reseating.{RowSeated, cards_by, row_seated}
-use Rattle.batch.proofs.RuleKeeps.{ruled_keeps}
 use Rattle.batch.proofs.RuleRenames.{anew_named}
-use Rattle.batch.proofs.RuleRounds.{anew_round}
-use Rattle.batch.proofs.RuleRows.{anew_ruled, ruled_cards}
+use Rattle.batch.proofs.RuleRounds.{all_come}
+use Rattle.batch.proofs.RuleRows.{anew_ruled, ruled_cards, ruled_keeps}
 use Rattle.batch.proofs.Sorts.{distinct_sorted}
 use Rattle.batch.proofs.Writing.{renewed_then}
 
 -- what is so of both ends of each link, by tests that say the same
 pub both_ends : (f g : ℕ → Bool) (ls : List Link) → ((s : ℕ) → f s ≡ g s) → every (λ l. g l.from && g l.to) ls ≡ true → every (λ l. f l.from && f l.to) ls ≡ true
 both_ends f g ls e h = ap (λ (k : ℕ → Bool). every (λ (l : Link). k l.from && k l.to) ls) (λ t s. e s t) ∙ h
-
--- if a row keeps the links, all cards of another come
-all_come : (ls : List Link) (row kept : List ℕ) → distinct row ≡ true → keeps kept ls ≡ true → length (anew ls row) ≡ length row
-all_come ls row kept d k =
-    let a = anew_round ls row d in
-    elim (cases_lt (length (anew ls row)) (length row)) [
-      | inl l ↦ let w = a.1 l in absurd (never_kept (record { row = row; links = ls }) kept k w.0 w.1)
-      | inr l ↦ omega (arith, a.0)
-    ]
 
 module _ (m : List ℕ) (long : length m ≡ MEMORY) (R : Ready m) where
   -- ks are the slots in the order of their cards' numbers
