@@ -11,7 +11,6 @@
 #ifndef KEEPER_H
 #define KEEPER_H
 
-#include <stdbool.h>
 #include <stddef.h>
 #include <stdint.h>
 
@@ -32,9 +31,9 @@ enum {
     KEEPER_FULL = 7     /* 8,192 cards, 65,536 links, or 256 links at once: there can't be more */
 };
 
-/* How a saying went. `reason` counts if it wasn't done. So many numbers at the front of the output are shown: places, or a way that goes round. */
+/* How a saying went: `done` is 1 or 0, and `reason` counts if it wasn't done. So many numbers at the front of the output are shown: places, or a way that goes round. */
 typedef struct {
-    bool done;
+    uint64_t done;
     uint64_t reason;
     uint64_t shown;
 } KeeperAnswer;

@@ -18,7 +18,7 @@ use Rattle.keeper.proofs.Room.{front_stands}
 use Rattle.batch.specs.Engine.{Heard}
 use Rattle.batch.specs.Own.{answer, guarded, StepBy, StepSays}
 use Rattle.batch.specs.Playing.{stepped}
-use Rattle.batch.proofs.Room.{few}
+use Rattle.batch.proofs.SaidSize.{few}
 use Rattle.batch.proofs.Wholly.{own_fits, whole_in_own}
 
 -- a step whose answer is given in the front of the output

@@ -14,7 +14,7 @@ use Rattle.row.specs.Meaning.{count, ending, taken, row_of, used, IsRow}
 use Rattle.row.specs.Laws.{Packed}
 use Rattle.row.proofs.Along.{gap_to, listed_all, amount_all}
 use Rattle.row.proofs.Depending.{depends}
-use Rattle.row.proofs.Named.{one_slot, used_seat, row_used, place_slot as place_ranked}
+use Rattle.row.proofs.Named.{one_slot, used_seat, row_used, place_ranked}
 use Rattle.row.proofs.Present.{slot_used as at_seat, few_cards, apart}
 use Rattle.batch.specs.Dense.{Dense}
 

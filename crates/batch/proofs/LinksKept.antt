@@ -1,5 +1,5 @@
 -- Several links said at once are done or refused rightly.
-use Rattle.std.proofs.Common.{◌≡◌, ℕ, ◌+◌, ◌<◌, ◌≤◌, true, false, leb, ◌≢◌, List, ◌++◌, length, take, Some, None, Option, sym, refl, ap, ◌∙◌, subst, inl, inr, arith, length-append}
+use Rattle.std.proofs.Common.{Ok, Bool, cond, ◌≡◌, ℕ, ◌+◌, ◌<◌, ◌≤◌, true, false, leb, ◌≢◌, List, ◌++◌, length, take, Some, None, Option, sym, refl, ap, ◌∙◌, subst, inl, inr, arith, length-append}
 use Rattle.std.proofs.lemmas.Bool.{cases_Bool, cases_lt, both_ways, le-leb, lt-leb, leb-true}
 use Rattle.memory.specs.declared.column.TheConstants.{MEMORY}
 use Rattle.order.specs.declared.board.TheConstants.{LINKS}
@@ -15,7 +15,9 @@ use Rattle.links.specs.Entries.{live}
 use Rattle.row.specs.Moves.{packed}
 use Rattle.links.proofs.Operating.{counts}
 use Rattle.keeper.specs.Engine.{Ran}
-use Rattle.keeper.specs.Answers.{Answer, quiet, refuses, leaves_pending}
+use Rattle.keeper.specs.Answers.{Answer, quiet, ends, refuses, leaves_pending}
+use Rattle.keeper.specs.declared.event.Act.TheVariants.{Done as IsDone}
+use Rattle.memory.specs.Options.{given}
 use Rattle.keeper.specs.Sister.{within}
 use Rattle.keeper.specs.Meaning.{Means}
 use Rattle.keeper.proofs.Knowing.{names}
@@ -34,21 +36,17 @@ use Rattle.batch.specs.CheckLaws.{Names}
 use Rattle.batch.specs.Joining.{Tried, tried}
 use Rattle.batch.specs.JoinLaws.{AllIn, Stopped}
 use Rattle.batch.specs.UndoLaws.{Covers}
-use Rattle.batch.specs.Saying.{part_aside, undone, brought, by_trial, rearranged, said_several}
+use Rattle.batch.specs.Saying.{part_aside, undone, told_span, brought, closed, by_trial, rearranged, said_several}
 use Rattle.batch.specs.Engine.{several, run_of}
 use Rattle.batch.specs.Promise.{small_link, small_saying, Settled, Done, Refused}
 use Rattle.batch.specs.Own.{answer, own}
 use Rattle.batch.proofs.CardsThere.{finds_all}
-use Rattle.batch.proofs.Repeating.{repeats}
-use Rattle.batch.proofs.Spanning.{span_moves}
-use Rattle.batch.proofs.PackedMeans.{packed_long, packed_means, packed_row}
-use Rattle.batch.proofs.SavedMeans.{tries_saved}
+use Rattle.batch.proofs.Spanning.{repeats, span_moves}
+use Rattle.batch.proofs.ReadyAgain.{packed_long, packed_means, packed_row, tries_saved}
 use Rattle.batch.proofs.Undoing.{undoes_all, undoes_stopped, undoes_none}
 use Rattle.batch.proofs.SeveralBetween.{several_between}
-use Rattle.batch.proofs.SeveralKept.{several_kept}
-use Rattle.batch.proofs.SeveralSingle.{several_single}
-use Rattle.batch.proofs.SeveralRound.{several_round}
-use Rattle.batch.proofs.SayingSteps.{brought_full, brought_kept, brought_told, trial_done, trial_round}
+use Rattle.batch.proofs.SeveralRows.{several_kept, several_single}
+use Rattle.batch.proofs.SeveralOrder.{several_round}
 use Rattle.batch.proofs.Tries.{means_fine, tries}
 use Rattle.batch.proofs.SpanTold.{ToldSo, span_told}
 use Rattle.batch.proofs.Runs.{idle_first, first_done, first_refused, first_round}
@@ -167,11 +165,14 @@ module _ (m : List ℕ) (r : Board) (ls : List Link) (long : length m ≡ MEMORY
       board_same : Means k r
       board_same = undone_stopped o refl round S
 
+      closes_so : said_several m ls ≡ closed t.memory (take t.count ls) o S.way
+      unfolding by_trial
+      closes_so = said_is ∙ rw S.is_way refl
+
       shown : StepKept own 3 m r (several ls)
       unfolding several_refusal Refused
       shown =
-          let e = said_is ∙ trial_round t ls o S.way S.is_way in
-          refused_so m r ls _ (run_is _ e ∙ first_round k board_same.long S.way) Cycle (rw (few, there, fresh, round) refl)
+          refused_so m r ls _ (run_is _ closes_so ∙ first_round k board_same.long S.way) Cycle (rw (few, there, fresh, round) refl)
           (refl, refl, (λ _. (S.way, refl, S.round)), λ n. absurd (n refl))
           (record {
             means = subst (Means (leaves_pending (leaves_pending k 2) 0)) (sym board_same.is) (settles k (leaves_pending k 2) board_same.ready board_same.single board_same.long (noted k k 2 (omega arith) (same columns k)));
@@ -195,14 +196,15 @@ module _ (m : List ℕ) (r : Board) (ls : List Link) (long : length m ≡ MEMORY
           counts t.memory N.ready.is_table ∙ sym (names t.memory N.ready).length_links_named
           ∙ ap (λ (b : Board). length b.links) (sym N.is) ∙ length-append r.links ls
 
-      abbrev brings : said_several m ls ≡ brought t.memory ls o
-      brings = said_is ∙ trial_done t ls o A.no_way
+      brings : (o₁ : Option Span) (b : Bool) → o ≡ o₁ → leb (live t.memory) LINKS ≡ b →
+          said_several m ls ≡ cond b (given o₁ (quiet (ends (Ok IsDone) t.memory)) (λ s. told_span t.memory s)) (quiet (refuses (undone t.memory ls o₁) Full))
+      unfolding by_trial brought
+      brings o₁ b e h = said_is ∙ rw (A.no_way, h, e) refl
 
       too_many : LINKS < length r.links + length ls → StepKept own 3 m r (several ls)
       unfolding several_refusal Refused
       too_many h =
-          let e = brings ∙ brought_full t.memory ls o (omega (arith, counted)) in
-          refused_so m r ls _ (run_is _ e ∙ first_refused (undone t.memory ls o) Full) Full
+          refused_so m r ls _ (run_is _ (brings o false refl (lt-leb _ LINKS (omega (arith, counted)))) ∙ first_refused (undone t.memory ls o) Full) Full
           (rw (few, there, fresh, flat, lt-leb _ LINKS h) refl)
           (refl, refl, (λ y. absurd (full_is_not y)), λ _. refl) (record { means = undone_all o refl A; few = K.few })
 
@@ -218,7 +220,7 @@ module _ (m : List ℕ) (r : Board) (ls : List Link) (long : length m ≡ MEMORY
         unfolding Done told_rows every
         unmoved b =
             let k = kept_none b in
-            let e = brings ∙ ap (brought t.memory ls) b ∙ brought_kept t.memory ls (omega (arith, counted)) in
+            let e = brings None true b (le-leb _ LINKS (omega (arith, counted))) in
             done_so m r ls _ (run_is _ e ∙ first_done t.memory) allowed (
               refl,
               refl,
@@ -238,7 +240,7 @@ module _ (m : List ℕ) (r : Board) (ls : List Link) (long : length m ≡ MEMORY
         unfolding Done
         moved s b =
             let w = part s b in
-            let e = brings ∙ ap (brought t.memory ls) b ∙ brought_told t.memory ls s (omega (arith, counted)) in
+            let e = brings (Some s) true b (le-leb _ LINKS (omega (arith, counted))) in
             let T = told s b in
             let n = T.makes r.row (rw (w.0, w.1) (record { long = sym B.as_long; front = sym B.front; rest = sym B.rest })) in
             done_so m r ls _ (run_is _ e ∙ T.run) allowed (

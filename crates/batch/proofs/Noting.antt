@@ -17,22 +17,13 @@ use Rattle.batch.specs.Circling.{stays, noted}
 abbrev pub noting : List Column
 noting = NUMBERS ∷ []
 
-stays_low : (m : List ℕ) (s : ℕ) → stays m s ≡ true → s < CARDS
-unfolding stays
-stays_low m s e = ltb-true s CARDS (and_parts (ltb s CARDS) _ e).0
-
-noted_here : (m : List ℕ) (x : ℕ) → stays m (x / CARDS) ≡ true → noted m x ≡ written m NUMBERS (x % CARDS) (x / CARDS)
-unfolding noted
-noted_here m x e = rw e refl
-
-noted_not : (m : List ℕ) (x : ℕ) → stays m (x / CARDS) ≡ false → noted m x ≡ m
-unfolding noted
-noted_not m x e = rw e refl
-
 pub noted_writes : (m : List ℕ) (x : ℕ) → Writes noting m (noted m x)
+unfolding noted stays
 noted_writes m x = elim (cases_Bool (stays m (x / CARDS))) [
-  | inl e ↦ rw (noted_here m x e) (put_one m NUMBERS (x % CARDS) (x / CARDS) (λ s. omega (arith, stays_low m (x / CARDS) e)))
-  | inr e ↦ rw (noted_not m x e) (same noting m)
+  | inl e ↦
+      let l = ltb-true (x / CARDS) CARDS (and_parts (ltb (x / CARDS) CARDS) _ e).0 in
+      rw e (put_one m NUMBERS (x % CARDS) (x / CARDS) (λ s. omega arith))
+  | inr e ↦ rw e (same noting m)
 ]
 
 -- m is the memory before; xs are the links that are looked at
@@ -49,61 +40,43 @@ module _ (m : List ℕ) (long : NUMBERS.base + NUMBERS.size ≤ length m) where
   unfolding stays
   same_stays n w s = rw (w.others LEAVES s refl)
 
-  -- one link more is looked at
-  module _ (n : List ℕ) (w : Writes noting m n) (x : ℕ) (xs : List ℕ) (t : ℕ) (low : t < CARDS) where
-    one_noted : stays m (x / CARDS) ≡ true → x % CARDS ≡ t → has xs x ≡ true → Noted xs t (noted n x)
-    one_noted z y i = record {
-      link = x;
-      looked = i;
-      late = z;
-      into = y;
-      is = ap (λ (k : List ℕ). cell k NUMBERS t) (noted_here n x (same_stays n w (x / CARDS) ∙ z))
-          ∙ ap (λ (s : ℕ). cell (written n NUMBERS s (x / CARDS)) NUMBERS t) y ∙ cell_same n NUMBERS t (x / CARDS) low (omega (arith, long, w.as_long));
-    }
-
-    one_still : has xs x ≡ true → Noted xs t n → Noted xs t (noted n x)
-    one_still i o = elim (cases_Bool (stays m (x / CARDS))) [
-      | inl z ↦ elim (cases_eq t (x % CARDS)) [
-        | inl y ↦ one_noted z (sym y) i
-        | inr y ↦ record {
-          link = o.link;
-          looked = o.looked;
-          late = o.late;
-          into = o.into;
-          is = ap (λ (k : List ℕ). cell k NUMBERS t) (noted_here n x (same_stays n w (x / CARDS) ∙ z)) ∙ cell_other n NUMBERS (x % CARDS) t (x / CARDS) y ∙ o.is;
-        }
-      ]
-      | inr z ↦ record {
-        link = o.link;
-        looked = o.looked;
-        late = o.late;
-        into = o.into;
-        is = ap (λ (k : List ℕ). cell k NUMBERS t) (noted_not n x (same_stays n w (x / CARDS) ∙ z)) ∙ o.is;
-      }
-    ]
-
-  -- all of ys are looked at, which are of xs
-  module _ (xs : List ℕ) (t : ℕ) (low : t < CARDS) where
-    all_still : (ys n : List ℕ) → Writes noting m n → ((y : ℕ) → has ys y ≡ true → has xs y ≡ true) → Noted xs t n → Noted xs t (fold noted n ys)
-    all_still [] n w h o = o
-    all_still (y ∷ ys) n w h o =
-        all_still ys (noted n y) (on noting m n (noted n y) w (noted_writes n y)) (λ z i. h z (has_tail y ys z i))
-        (one_still n w y xs t low (h y (has_head y ys)) o)
-
-    pub all_noted : (ys n : List ℕ) (x : ℕ) → Writes noting m n → ((y : ℕ) → has ys y ≡ true → has xs y ≡ true) → has ys x ≡ true →
-        stays m (x / CARDS) ≡ true → x % CARDS ≡ t → Noted xs t (fold noted n ys)
-    unfolding any
-    all_noted [] n x w h i z e = absurd (both_ways false refl i)
-    all_noted (y ∷ ys) n x w h i z e =
-        let v = on noting m n (noted n y) w (noted_writes n y) in
-        let g : (k : ℕ) → has ys k ≡ true → has xs k ≡ true = λ k j. h k (has_tail y ys k j) in
-        elim (or_cases (eqb x y) (has ys x) i) [
-          | inl j ↦
-              let q = eqb-true x y j in
-              all_still ys (noted n y) v g
-              (one_noted n w y xs t low (ap (λ (k : ℕ). stays m (k / CARDS)) (sym q) ∙ z) (ap (λ (k : ℕ). k % CARDS) (sym q) ∙ e) (h y (has_head y ys)))
-          | inr j ↦ all_noted ys (noted n y) x v g j z e
+  -- one link more is looked at; if what is noted for t isn't of it, it is of one before
+  one_more : (n : List ℕ) → Writes noting m n → (x : ℕ) (xs : List ℕ) (t : ℕ) → t < CARDS → has xs x ≡ true →
+      ((stays m (x / CARDS) ≡ true → x % CARDS ≡ t → ⊥) → Noted xs t n) → Noted xs t (noted n x)
+  unfolding noted
+  one_more n w x xs t low i before =
+      let s = same_stays n w (x / CARDS) in
+      elim (cases_Bool (stays m (x / CARDS))) [
+        | inl z ↦ elim (cases_eq t (x % CARDS)) [
+          | inl y ↦ rw (s, z) (record {
+            link = x;
+            looked = i;
+            late = z;
+            into = sym y;
+            is = ap (λ (k : ℕ). cell (written n NUMBERS k (x / CARDS)) NUMBERS t) (sym y) ∙ cell_same n NUMBERS t (x / CARDS) low (omega (arith, long, w.as_long));
+          })
+          | inr y ↦
+              let o = before (λ _ e. y (sym e)) in
+              rw (s, z) (record { link = o.link; looked = o.looked; late = o.late; into = o.into; is = cell_other n NUMBERS (x % CARDS) t (x / CARDS) y ∙ o.is })
         ]
+        | inr z ↦ rw (s, z) (before (λ e _. absurd (both_ways _ z e)))
+      ]
+
+  -- all of ys are looked at, which are of xs, and one of them goes into t, if nothing is noted for it before
+  all_more : (xs : List ℕ) (t : ℕ) → t < CARDS → (ys n : List ℕ) → Writes noting m n → ((y : ℕ) → has ys y ≡ true → has xs y ≡ true) →
+      (((y : ℕ) → has ys y ≡ true → stays m (y / CARDS) ≡ true → y % CARDS ≡ t → ⊥) → Noted xs t n) → Noted xs t (fold noted n ys)
+  unfolding any
+  all_more xs t low [] n w h o = o (λ y i. absurd (both_ways false refl i))
+  all_more xs t low (y ∷ ys) n w h o =
+      all_more xs t low ys (noted n y) (on noting m n (noted n y) w (noted_writes n y)) (λ z i. h z (has_tail y ys z i))
+      (λ none. one_more n w y xs t low (h y (has_head y ys)) (λ not. o (λ k i z e. elim (or_cases (eqb k y) (has ys k) i) [
+        | inl j ↦ let q = eqb-true k y j in not (ap (λ (x : ℕ). stays m (x / CARDS)) (sym q) ∙ z) (ap (λ (x : ℕ). x % CARDS) (sym q) ∙ e)
+        | inr j ↦ none k j z e
+      ])))
+
+  pub all_noted : (xs : List ℕ) (t : ℕ) → t < CARDS → (ys n : List ℕ) (x : ℕ) → Writes noting m n → ((y : ℕ) → has ys y ≡ true → has xs y ≡ true) →
+      has ys x ≡ true → stays m (x / CARDS) ≡ true → x % CARDS ≡ t → Noted xs t (fold noted n ys)
+  all_noted xs t low ys n x w h i z e = all_more xs t low ys n w h (λ none. absurd (none x i z e))
 
 pub fold_writes : (xs m : List ℕ) → Writes noting m (fold noted m xs)
 fold_writes [] m = same noting m

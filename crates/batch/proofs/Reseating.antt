@@ -17,7 +17,7 @@ use Rattle.row.specs.declared.layout.TheConstants.{SEATS_MOST, COUNT, ENDING, FR
 use Rattle.row.specs.Meaning.{bit_set, in_use, count, ending, fresh, free, taken, row_of, cards, used, Standing}
 use Rattle.row.specs.Moves.{put_at}
 use Rattle.row.proofs.Named.{length_slots}
-use Rattle.search.proofs.Dealing.{put, put_one_apart, put_slots, put_places}
+use Rattle.search.proofs.Dealing.{put, put_apart, put_slots, put_places}
 use Rattle.search.proofs.Exchanged.{with_at, at_here, exchanged, exchanged_out}
 use Rattle.search.proofs.Listed.{counting_has, counting_once}
 use Rattle.search.proofs.Mapped.{map_has, has_map}
@@ -40,7 +40,7 @@ reseated_put zero m p = refl
 reseated_put (suc n) m p =
     let m₁ = put_at m p (cell m SPARE p) in
     reseated_put n m₁ (p + 1)
-    ∙ ap (put m₁ (range_with_len (p + 1) n)) (made_same (cell m₁ SPARE) (cell m SPARE) (p + 1) n (λ q _ _. put_one_apart m p (cell m SPARE p) SPARE q refl refl))
+    ∙ ap (put m₁ (range_with_len (p + 1) n)) (made_same (cell m₁ SPARE) (cell m SPARE) (p + 1) n (λ q _ _. put_apart m p (cell m SPARE p) SPARE q refl refl))
 
 -- at each of the places then is what was given to it
 exchanged_all : (g : ℕ → ℕ) (ps ks : List ℕ) → distinct ps ≡ true → length ks ≡ length ps → map (exchanged g ps ks) ps ≡ ks

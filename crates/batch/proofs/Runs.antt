@@ -1,16 +1,16 @@
 -- Runs on the engine of this crate: after its first answer a saying goes on as on the keeper's.
-use Rattle.std.proofs.Common.{Ok, ◌≡◌, ℕ, zero, suc, ◌+◌, ◌≤◌, true, leb, List, [], ◌∷◌, length, refl, ap, ◌∙◌, inl, inr, arith}
+use Rattle.std.proofs.Common.{Ok, ◌≡◌, ℕ, zero, suc, ◌+◌, ◌≤◌, true, List, [], ◌∷◌, length, refl, ap, ◌∙◌, arith}
+use mathlib.Core.Path.{fun_ext}
 use Rattle.std.proofs.lemmas.List.{take_all}
-use Rattle.std.proofs.lemmas.Bool.{cases_Bool, eq-eqb}
+use Rattle.std.proofs.lemmas.Bool.{eq-eqb}
 use Rattle.command.specs.declared.command.Command.{Command}
 use Rattle.order.specs.declared.board.Refusal.{Refusal}
 use Rattle.order.specs.declared.board.Refusal.TheVariants.{Missing, Exists, Cycle, Full}
 use Rattle.order.specs.Reordering.{number}
-use Rattle.command.specs.Commands.{Told}
-use Rattle.keeper.specs.declared.layout.TheConstants.{MORE_TO, TOLD}
+use Rattle.keeper.specs.declared.layout.TheConstants.{MORE_TO}
 use Rattle.keeper.specs.declared.event.Event.TheVariants.{Said, Next}
 use Rattle.keeper.specs.declared.event.Act.TheVariants.{Shows, Done}
-use Rattle.keeper.specs.Engine.{Action, tells, shows, done, refused, action_of, ran, one_act, runs as keeper_runs, run_of as keeper_run_of}
+use Rattle.keeper.specs.Engine.{done, refused, action_of, ran, one_act, runs as keeper_runs, run_of as keeper_run_of}
 use Rattle.keeper.specs.Answers.{Answer, quiet, ends, refuses, pending, leaves_pending}
 use Rattle.keeper.specs.Sized.{small_event, guarded as keeper_guarded}
 use Rattle.keeper.specs.Own.{own as keeper_own}
@@ -23,49 +23,24 @@ use Rattle.batch.specs.Engine.{Saying, one, said, next, runs, run_of}
 use Rattle.batch.specs.Promise.{small_saying, small_heard}
 use Rattle.batch.specs.Own.{when_idle, answer, guarded, own}
 
-act_same : (go go₁ : Go) → ((m : List ℕ) (ts : List Told) (ss : List (List ℕ)) → go m ts ss ≡ go₁ m ts ss) →
-    (ts : List Told) (ss : List (List ℕ)) (m : List ℕ) (a : Action) → one_act go ts ss m a ≡ one_act go₁ ts ss m a
-unfolding one_act
-act_same go go₁ e ts ss m (tells i ks) = elim (cases_Bool (leb (length ks) TOLD)) [
-  | inl t ↦ rw t (e m _ ss)
-  | inr t ↦ rw t
-]
-act_same go go₁ e ts ss m (shows ks) = e m ts _
-act_same go go₁ e ts ss m done = refl
-act_same go go₁ e ts ss m (refused k) = refl
-
 -- to go on is the keeper's
-next_same : (m : List ℕ) → own.step m next ≡ keeper_own.step m Next
-unfolding guarded small_heard answer keeper_guarded small_event
-next_same m = refl
-
-runs_on : (n : ℕ) (m : List ℕ) (ts : List Told) (ss : List (List ℕ)) → runs n own m next ts ss ≡ keeper_runs n keeper_own m Next ts ss
-unfolding runs keeper_runs
-runs_on zero m ts ss = refl
-runs_on (suc n) m ts ss =
-    rw (next_same m)
-    (act_same (λ m₁ ts₁ ss₁. runs n own m₁ next ts₁ ss₁) (λ m₁ ts₁ ss₁. keeper_runs n keeper_own m₁ Next ts₁ ss₁) (λ m₁ ts₁ ss₁. runs_on n m₁ ts₁ ss₁) ts ss
-    (keeper_own.step m Next).memory (keeper_own.step m Next).action)
+goes_same : (n : ℕ) → ◌≡◌ {A = Go} (λ m ts ss. runs n own m next ts ss) (λ m ts ss. keeper_runs n keeper_own m Next ts ss)
+unfolding runs keeper_runs guarded small_heard answer keeper_guarded small_event
+goes_same zero = refl
+goes_same (suc n) =
+    fun_ext (λ m. fun_ext (λ ts. fun_ext (λ ss.
+    let s = keeper_own.step m Next in
+    ap (λ (go : Go). one_act go ts ss s.memory s.action) (goes_same n))))
 
 -- and so is a command
-command_same : (m : List ℕ) (c : Command) → own.step m (said (one c)) ≡ keeper_own.step m (Said c)
-unfolding guarded small_heard small_saying answer keeper_guarded small_event
-command_same m c = refl
-
 pub run_command : (m : List ℕ) (c : Command) → run_of 3 own m (one c) ≡ keeper_run_of 3 keeper_own m c
-unfolding runs keeper_runs
-run_command m c =
-    rw (command_same m c)
-    (act_same (λ m₁ ts₁ ss₁. runs 2 own m₁ next ts₁ ss₁) (λ m₁ ts₁ ss₁. keeper_runs 2 keeper_own m₁ Next ts₁ ss₁) (λ m₁ ts₁ ss₁. runs_on 2 m₁ ts₁ ss₁) [] []
-    (keeper_own.step m (Said c)).memory (keeper_own.step m (Said c)).action)
+unfolding runs keeper_runs guarded small_heard small_saying answer keeper_guarded small_event
+run_command m c = let s = keeper_own.step m (Said c) in ap (λ (go : Go). one_act go [] [] s.memory s.action) (goes_same 2)
 
 -- any saying, from its first answer on
 run_first : (m : List ℕ) (s : Saying) (a : Answer) → small_saying s ≡ true → answer m (said s) ≡ a → run_of 3 own m s ≡ from_first a
 unfolding runs guarded small_heard
-run_first m s a sm e =
-    rw (sm, e)
-    (act_same (λ m₁ ts₁ ss₁. runs 2 own m₁ next ts₁ ss₁) (λ m₁ ts₁ ss₁. keeper_runs 2 keeper_own m₁ Next ts₁ ss₁) (λ m₁ ts₁ ss₁. runs_on 2 m₁ ts₁ ss₁) [] []
-    a.memory (action_of a.act a.numbers))
+run_first m s a sm e = rw (sm, e) (ap (λ (go : Go). one_act go [] [] a.memory (action_of a.act a.numbers)) (goes_same 2))
 
 pub idle_first : (m : List ℕ) (s : Saying) (a : Answer) → pending m ≡ 0 → small_saying s ≡ true → answer m (said s) ≡ when_idle m a →
     run_of 3 own m s ≡ from_first a

@@ -1,92 +1,40 @@
 -- Several links said at once keep the size of the memory, whatever stands there, and what is answered fits what carries it.
-use Rattle.std.proofs.Common.{Ok, ◌≡◌, ℕ, ◌+◌, ◌-◌, ◌^◌, ◌<◌, ◌≤◌, min, true, eqb, ltb, leb, List, [], ◌∷◌, length, take, Some, None, Option, arith}
-use lib.ListN.{length-map}
-use Rattle.std.proofs.lemmas.Bool.{and_parts, ltb-true, cond_both}
+use Rattle.std.proofs.Common.{Ok, ◌≡◌, ℕ, ◌-◌, ◌^◌, ◌<◌, ◌≤◌, min, true, leb, List, [], ◌∷◌, length, take, Some, None, Option, arith, eqb}
+use Rattle.std.proofs.lemmas.Bool.{cond_both}
 use Rattle.order.specs.declared.board.TheConstants.{CARDS, LINKS}
-use Rattle.command.specs.declared.command.Command.TheVariants.{Link as Links}
 use Rattle.order.specs.declared.board.Link.{Link}
 use Rattle.order.specs.declared.board.Refusal.TheVariants.{Missing, Exists, Full}
 use Rattle.order.specs.Lists.{every}
-use Rattle.memory.specs.Columns.{cell}
-use Rattle.memory.proofs.Cells.{small_cell}
-use Rattle.row.specs.declared.layout.TheConstants.{IDS, SEATS}
 use Rattle.row.specs.Moves.{packed}
 use Rattle.row.proofs.Framing.{packed_writes}
 use Rattle.links.specs.Entries.{live}
-use Rattle.search.specs.declared.layout.TheConstants.{VIA}
-use Rattle.search.specs.Hunt.{meeting}
 use Rattle.search.specs.Way.{way}
-use Rattle.search.proofs.Joining.{way_few}
-use Rattle.search.proofs.Touching.{writes_meeting}
-use Rattle.keeper.specs.Promise.{all_small, small_command}
 use Rattle.keeper.specs.Sized.{KeepsSize}
 use Rattle.keeper.specs.Linking.{slots_found}
-use Rattle.keeper.specs.Reordering.{round_cards}
-use Rattle.keeper.proofs.Size.{small_each, small_map, size_same, size_then, size_writes}
-use Rattle.keeper.proofs.OwnSize.{size_pending, Sized, sized_done, sized_refuses, sized_then, sized_cond, sized_shows, small_one, Any, sized_on}
+use Rattle.keeper.proofs.Size.{size_same, size_then, size_writes, cond_holds}
+use Rattle.keeper.proofs.OwnSize.{size_pending, Sized, sized_done, sized_refuses, sized_then, sized_cond, sized_shows, Any, sized_on}
 use Rattle.batch.specs.declared.layout.TheConstants.{BATCH}
 use Rattle.batch.specs.declared.seating.Span.{Span}
 use Rattle.batch.specs.Checking.{all_found, repeated, wider, widened, spanned, moving, no_span, span}
-use Rattle.batch.specs.Joining.{Joined, joined_slots, joined, Tried, tried, taken_out}
+use Rattle.batch.specs.Joining.{Tried, tried, taken_out}
 use Rattle.batch.specs.Saying.{noting, told_span, part_aside, undone, brought, by_trial, rearranged, said_several}
 use Rattle.batch.specs.Seating.{reseated}
 use Rattle.memory.specs.Options.{given}
 use Rattle.memory.proofs.Options.{given_holds}
-use Rattle.keeper.specs.Answers.{quiet, ends}
+use Rattle.keeper.specs.Answers.{quiet, ends, Answer, pending}
 use Rattle.keeper.specs.declared.event.Act.TheVariants.{Done}
 use Rattle.batch.specs.declared.checking.Named.{Named}
 use Rattle.batch.proofs.Saving.{saved_writes}
 use Rattle.batch.proofs.Writing.{reseated_writes}
 use Rattle.batch.proofs.SpanTold.{noting_writes}
-use Rattle.batch.proofs.TriedFrames.{joined_writes, tried_writes, taken_out_writes}
-
--- a way to be shown
-abbrev WayFits : List ℕ → Option (List ℕ) → Type 0
-WayFits m None = Unit {0}
-WayFits m (Some ks) = (length ks ≤ CARDS) × (all_small m ≡ true → all_small ks ≡ true)
-
-way_then : (m m₁ : List ℕ) (o : Option (List ℕ)) → KeepsSize m m₁ → WayFits m₁ o → WayFits m o
-way_then m m₁ None b w = tt
-way_then m m₁ (Some ks) b w = (w.0, λ h. w.1 (b.1 h))
-
-round_fits : (m : List ℕ) (x y : Link) → WayFits m (Some (round_cards m x y))
-unfolding round_cards
-round_fits m x y =
-    let w = way (cell m VIA) CARDS x y in
-    (omega (arith, length-map w (cell m IDS), way_few (cell m VIA) CARDS x y), λ h. small_map (cell m IDS) (λ k. small_cell m IDS k (small_each m h)) w)
-
--- a link is tried
-abbrev JoinedFits : List ℕ → Joined → Type 0
-JoinedFits m j = WayFits m j.way
-
-joined_slots_fits : (m : List ℕ) (x : Link) → WayFits m (joined_slots m x).way
-unfolding joined_slots
-joined_slots_fits m x =
-    let n = (meeting m x).memory in
-    cond_both (ltb (cell m SEATS x.to) (cell m SEATS x.from)) _ _ (JoinedFits m)
-    (λ _. given_holds Any (JoinedFits m) (meeting m x).answer _ _ tt tt
-    (λ y _. way_then m n (Some (round_cards n x y)) (size_writes _ m n (writes_meeting m x)) (round_fits n x y)))
-    (λ _. tt)
-
-joined_fits : (m : List ℕ) (l : Link) → small_command (Links l) ≡ true → WayFits m (joined m l).way
-unfolding joined small_command
-joined_fits m l h =
-    let u = ltb-true _ _ (and_parts (ltb l.from 18446744073709551616) _ h).0 in
-    given_holds Any (JoinedFits m) (slots_found m l) _ _ tt tt (λ x _.
-    cond_both (eqb x.from x.to) _ _ (JoinedFits m) (λ _. (omega arith, λ _. small_one l.from u)) (λ _. joined_slots_fits m x))
-
--- links are tried, and taken out again
-abbrev TriedFits : List ℕ → Tried → Type 0
-TriedFits m t = WayFits m t.way
-
-tried_fits : (m : List ℕ) (ls : List Link) (i : ℕ) → every (λ l. small_command (Links l)) ls ≡ true → WayFits m (tried m ls i).way
-unfolding tried every
-tried_fits m [] i h = tt
-tried_fits m (l ∷ ls) i h =
-    let p = and_parts (small_command (Links l)) _ h in
-    let n = (joined m l).memory in
-    given_holds (WayFits m) (TriedFits m) (joined m l).way _ _ (joined_fits m l p.0)
-    (way_then m n (tried n ls (i + 1)).way (size_writes _ m n (joined_writes m l)) (tried_fits n ls (i + 1) p.1)) (λ ks w. w)
+use Rattle.batch.specs.Promise.{small_link}
+use Rattle.batch.proofs.TriedFrames.{WayFits, way_then, tried_so, taken_out_writes}
+use Rattle.keeper.specs.declared.event.Event.TheVariants.{Said, Next}
+use Rattle.keeper.specs.Own.{answer as keeper_answer}
+use Rattle.keeper.proofs.Room.{Few, few_answer}
+use Rattle.batch.specs.Tidying.{tidied}
+use Rattle.batch.specs.Engine.{one, several, anew, Heard, said, next}
+use Rattle.batch.specs.Own.{said_anew, when_idle, answer}
 
 -- the part of the row that may change
 record Bounded (s : Span) : Type 0 where
@@ -148,23 +96,24 @@ unfolding part_aside
 size_aside m None = size_same m
 size_aside m (Some s) = size_writes _ m _ (saved_writes m s.low (min s.high CARDS - s.low))
 
-module _ (m : List ℕ) (ls : List Link) (h : every (λ l. small_command (Links l)) ls ≡ true) where
-  sized_trial : (s : Option Span) (t : Tried) → BoundedPart s → KeepsSize m t.memory → WayFits m t.way → Sized m (by_trial t ls s)
+module _ (m : List ℕ) (ls : List Link) (h : every small_link ls ≡ true) where
+  sized_trial : (s : Option Span) (t : Tried) → BoundedPart s → KeepsSize m t.memory → WayFits (Unit {0}) m t.way → Sized m (by_trial t ls s)
   unfolding by_trial
   sized_trial s t b z f =
       let n = t.memory in
-      given_holds (WayFits m) (Sized m) t.way _ _ f (sized_then m n z _ (sized_brought n s b ls)) (λ ks w.
+      given_holds (WayFits (Unit {0}) m) (Sized m) t.way _ _ f (sized_then m n z _ (sized_brought n s b ls)) (λ ks w.
       let js = take t.count ls in
-      sized_shows m _ (length ks) ks (size_pending m _ 2 (omega arith) (size_then m n _ z (size_undone n s b js))) w.0 w.1)
+      sized_shows m _ (length ks) ks (size_pending m _ 2 (omega arith) (size_then m n _ z (size_undone n s b js))) w.0 (w.1 tt))
 
   sized_rearranged : (s : Option Span) → BoundedPart s → Sized m (rearranged m ls s)
   unfolding rearranged
   sized_rearranged s b =
       let n = part_aside m s in
       let z = size_aside m s in
-      sized_trial s (tried n ls 0) b (size_then m n _ z (size_writes _ n _ (tried_writes n ls 0))) (way_then m n (tried n ls 0).way z (tried_fits n ls 0 h))
+      let t = tried_so (Unit {0}) n ls 0 (λ _. h) in
+      sized_trial s (tried n ls 0) b (size_then m n _ z (size_writes _ n _ t.wrote)) (way_then (Unit {0}) m n (tried n ls 0).way z t.fits)
 
-pub sized_several : (m : List ℕ) (ls : List Link) → every (λ l. small_command (Links l)) ls ≡ true → Sized m (said_several m ls)
+pub sized_several : (m : List ℕ) (ls : List Link) → every small_link ls ≡ true → Sized m (said_several m ls)
 unfolding said_several
 sized_several m ls h =
     let no = sized_refuses m m (size_same m) in
@@ -174,3 +123,30 @@ sized_several m ls h =
     (sized_cond m (repeated m [] ls) _ _ (no Exists) (sized_then m p (size_writes _ m p (packed_writes m)) _ (sized_rearranged p ls h (span p ls) (bounded_span p ls))))
     (no Missing))
     (no Full)
+
+few_brought : (m : List ℕ) (ls : List Link) (o : Option Span) → Few (brought m ls o)
+unfolding brought keeper_answer
+few_brought m ls o =
+    cond_holds Few (leb (live m) LINKS) _ _ (given_holds Any Few o _ _ tt (omega arith) (λ s _. few_answer (noting m s) Next)) (omega arith)
+
+few_trial : (m : List ℕ) (t : Tried) (ls : List Link) (o : Option Span) → WayFits ⊥ m t.way → Few (by_trial t ls o)
+unfolding by_trial
+few_trial m t ls o w = given_holds (WayFits ⊥ m) Few t.way _ _ w (few_brought t.memory ls o) (λ ks h. h.0)
+
+few_several : (m : List ℕ) (ls : List Link) → Few (said_several m ls)
+unfolding said_several rearranged
+few_several m ls =
+    cond_holds Few (leb (length ls) BATCH) _ _
+    (cond_holds Few (all_found m ls) _ _
+    (cond_holds Few (repeated m [] ls) _ _ (omega arith) (few_trial _ _ ls _ (tried_so ⊥ _ ls 0 (λ z. absurd z)).fits)) (omega arith)) (omega arith)
+
+few_idle : (m : List ℕ) (a : Answer) → Few a → Few (when_idle m a)
+unfolding when_idle
+few_idle m a h = cond_holds Few (eqb (pending m) 0) a _ h (omega arith)
+
+pub few : (m : List ℕ) (h : Heard) → Few (answer m h)
+unfolding answer said_anew keeper_answer
+few m (said (one c)) = few_answer m (Said c)
+few m (said (several ls)) = few_idle m _ (few_several m ls)
+few m (said anew) = few_idle m _ (cond_holds Few (tidied m).all _ _ (few_answer _ Next) (omega arith))
+few m next = few_answer m Next

@@ -1,26 +1,68 @@
--- What is spanned by links between cards that are there is the part of the row that they name; if none goes backward, the row keeps them.
-use Rattle.std.proofs.Common.{◌≡◌, ℕ, ◌<◌, ◌≤◌, min, max, Bool, true, not, ◌&&◌, ◌||◌, ltb, leb, List, [], ◌∷◌, ◌++◌, length, sym, refl, ap, ◌∙◌, subst, inl, inr, arith, is_some, Some}
+-- What is looked at before several links are tried: whether one of them was said before, and the part of the row that they name; if none goes backward, the
+-- row keeps them.
+use Rattle.std.proofs.Common.{◌≡◌, ℕ, ◌+◌, Bool, ◌||◌, List, [], ◌∷◌, ◌++◌, length, take, sym, refl, ◌∙◌, ap₂, append_assoc, length-append, ap, true, subst, append-nil, ◌<◌, ◌≤◌, min, max, not, ◌&&◌, ltb, leb, inl, inr, arith, is_some, Some}
+use Rattle.std.proofs.lemmas.List.{take_at}
+use Rattle.std.specs.List.{list_any, enumerate_from}
+use Rattle.order.specs.declared.board.Link.{Link}
+use Rattle.links.specs.Pairs.{joins}
+use Rattle.batch.specs.Checking.{known, repeated, widened, spanned, no_span, moving}
+use Rattle.order.specs.Lists.{any, every, place}
+use Rattle.order.specs.Board.{Board, keeps}
+use Rattle.batch.proofs.SeveralOrder.{any_append}
+use Rattle.search.specs.Meaning.{Ready}
+use Rattle.keeper.specs.Meaning.{card_board}
+use Rattle.batch.specs.Several.{all_there, with_links, said_before, first_named, past_named}
+use Rattle.batch.specs.CheckLaws.{Repeats, Names, Spans, SpanMoves}
+use Rattle.batch.proofs.SeveralRows.{there_parts}
+use Rattle.batch.proofs.CardsThere.{known_so, wider_so}
 use Rattle.std.proofs.lemmas.Bool.Decides.{nat_tests}
 use Rattle.std.proofs.lemmas.Bool.{cases_Bool, both_ways}
 use Rattle.order.specs.declared.board.TheConstants.{CARDS}
-use Rattle.order.specs.declared.board.Link.{Link}
-use Rattle.order.specs.Lists.{every, place}
-use Rattle.order.specs.Board.{Board, keeps}
 use Rattle.order.proofs.Climbs.{fine_parts}
 use Rattle.order.proofs.Filters.{every_append}
 use Rattle.order.proofs.Places.{place_below}
 use Rattle.row.proofs.Present.{length_cards, few_cards}
-use Rattle.search.specs.Meaning.{Ready}
-use Rattle.keeper.specs.Meaning.{card_board}
 use Rattle.keeper.proofs.Knowing.{fine_cards}
 use Rattle.batch.specs.declared.seating.Span.{Span}
 use Rattle.batch.specs.declared.checking.Named.{Named}
 use Rattle.batch.specs.Dense.{Dense}
-use Rattle.batch.specs.Several.{all_there, first_named, past_named}
-use Rattle.batch.specs.Checking.{widened, spanned, no_span, moving}
-use Rattle.batch.specs.CheckLaws.{Names, Spans, SpanMoves}
-use Rattle.batch.proofs.GoingOn.{there_parts}
-use Rattle.batch.proofs.CardsThere.{wider_so}
+
+-- the link at i was said before, or stands among the first i
+abbrev pub seen : List ℕ → List Link → ℕ × Link → Bool
+seen m ls p = known m p.1 || list_any (joins p.1) (take p.0 ls)
+
+seen_or_repeated : (m : List ℕ) (ls ps : List Link) → list_any (seen m (ps ++ ls)) (enumerate_from (length ps) ls) ≡ repeated m ps ls
+unfolding repeated
+seen_or_repeated m [] ps = refl
+seen_or_repeated m (l ∷ ls) ps =
+    let qs = ps ++ l ∷ [] in
+    let e : qs ++ ls ≡ ps ++ l ∷ ls = append_assoc ps (l ∷ []) ls in
+    let n : length qs ≡ length ps + 1 = length-append ps (l ∷ []) in
+    ap₂ (λ (xs : List Link) (b : Bool). (known m l || list_any (joins l) xs) || b) (take_at ps (l ∷ ls) (length ps) refl)
+    (ap₂ (λ (xs : List Link) (i : ℕ). list_any (seen m xs) (enumerate_from i ls)) (sym e) (sym n) ∙ seen_or_repeated m ls qs)
+
+pub finds_repeats : (m : List ℕ) (ls : List Link) → list_any (seen m ls) (enumerate_from 0 ls) ≡ repeated m [] ls
+finds_repeats m ls = seen_or_repeated m ls []
+
+any_is : {X : Type 0} (f : X → Bool) (xs : List X) → any f xs ≡ list_any f xs
+unfolding any
+any_is f [] = refl
+any_is f (x ∷ xs) = ap (λ (b : Bool). f x || b) (any_is f xs)
+
+-- with those that stand before them in the list
+repeats_behind : (m : List ℕ) → Ready m → (ps ls : List Link) → all_there (card_board m) ls ≡ true →
+    repeated m ps ls ≡ said_before (with_links (card_board m) ps) ls
+unfolding repeated said_before
+repeats_behind m R ps [] t = refl
+repeats_behind m R ps (l ∷ ls) t =
+    let r = card_board m in
+    let h = there_parts r l ls t in
+    rw (known_so m R l h.0 h.1, ← any_is (joins l) ps, any_append (joins l) r.links ps, repeats_behind m R (ps ++ l ∷ []) ls h.2) (simp append_assoc)
+
+pub repeats : Repeats
+repeats m r ls M t =
+    subst (λ (b : Board). repeated m [] ls ≡ said_before b ls) (sym M.is)
+    (repeats_behind m M.ready [] ls (subst (λ (b : Board). all_there b ls ≡ true) M.is t) ∙ simp append-nil)
 
 past_inside : (r : Board) (ls : List Link) → all_there r ls ≡ true → past_named r ls ≤ length r.row
 unfolding past_named

@@ -7,14 +7,14 @@ use Rattle.order.specs.Lists.{every, any}
 use Rattle.order.specs.Board.{Board, ◌⟶◌, linked, leads, fine}
 use Rattle.order.specs.Reordering.{with_link, goes_round}
 use Rattle.links.specs.declared.layout.TheConstants.{ENTRIES}
-use Rattle.batch.proofs.Anys.{any_append}
+use Rattle.batch.proofs.SeveralOrder.{any_append}
 use Rattle.keeper.specs.Promise.{small_command}
 use Rattle.keeper.specs.Meaning.{Means}
 use Rattle.keeper.proofs.Knowing.{fine_cards}
 use Rattle.batch.specs.Several.{all_there, linked_on, after_link, with_links, said_before, closes, Becomes, circle}
 use Rattle.batch.specs.Joining.{joined, Tried, tried}
 use Rattle.batch.specs.JoinLaws.{PutIn, GoesRound, Tries}
-use Rattle.batch.proofs.GoingOn.{there_parts, goes_on}
+use Rattle.batch.proofs.SeveralRows.{there_parts, goes_on}
 use Rattle.batch.proofs.CircleLinks.{circle_more, round_closed}
 use Rattle.batch.proofs.Joins.{joins}
 

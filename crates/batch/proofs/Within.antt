@@ -1,5 +1,5 @@
 -- Lists of different numbers: one all of whose numbers are in another list is no longer; and a list without one of its numbers is shorter by one.
-use Rattle.std.proofs.Common.{◌≡◌, ℕ, suc, ◌<◌, ◌≤◌, Bool, true, false, not, eqb, List, [], ◌∷◌, length, refl, inl, inr, arith}
+use Rattle.std.proofs.Common.{◌≡◌, ℕ, suc, ◌<◌, ◌≤◌, Bool, true, false, not, eqb, List, [], ◌∷◌, length, refl, inl, inr, arith, sym, ◌∙◌}
 use Rattle.std.proofs.lemmas.Bool.Decides.{nat_tests}
 use Rattle.std.proofs.lemmas.Bool.{cases_Bool, cases_eq, both_ways, and_from}
 use Rattle.order.specs.Lists.{every, any, filter, has, distinct}
@@ -68,3 +68,6 @@ pub every_in : (f : ℕ → Bool) (xs : List ℕ) → ((k : ℕ) → has xs k �
 unfolding every
 every_in f [] h = refl
 every_in f (x ∷ xs) h = and_from _ _ (h x (has_head x xs)) (every_in f xs (λ k i. h k (has_tail x xs k i)))
+
+pub as_long : (xs ys : List ℕ) → distinct xs ≡ true → distinct ys ≡ true → ((k : ℕ) → has xs k ≡ has ys k) → length xs ≡ length ys
+as_long xs ys d e h = omega (arith, few_within xs ys d (λ k i. sym (h k) ∙ i), few_within ys xs e (λ k i. h k ∙ i))

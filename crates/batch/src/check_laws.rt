@@ -2,6 +2,7 @@
 ghost use Rattle.batch.specs.CheckLaws.{FindsAll, Repeats, Spans, SpanMoves};
 
 // The cards that the links name are found just if they are there.
+#[tactic(auto, using(crate::proofs::CardsThere::finds_all))]
 pub fn finds_all_stands() -> u8
     ensures { FindsAll }
 {
@@ -9,6 +10,7 @@ pub fn finds_all_stands() -> u8
 }
 
 // A link is repeated just if it was said before.
+#[tactic(auto, using(crate::proofs::Spanning::repeats))]
 pub fn repeats_stands() -> u8
     ensures { Repeats }
 {

@@ -3,6 +3,7 @@ ghost use Rattle.batch.specs.SeveralLaws.{SeveralCan, SeveralOne, SeveralRound, 
 ghost use Rattle.batch.specs.SeveralLaws.{SeveralKept, SeveralSingle, SeveralAnyOrder};
 
 // If no link goes round, there is a row that the links make.
+#[tactic(auto, using(crate::proofs::SeveralRows::several_can))]
 pub fn several_can_stands() -> u8
     ensures { SeveralCan }
 {
@@ -10,6 +11,7 @@ pub fn several_can_stands() -> u8
 }
 
 // And only one.
+#[tactic(auto, using(crate::proofs::SeveralRows::several_one))]
 pub fn several_one_stands() -> u8
     ensures { SeveralOne }
 {
@@ -17,6 +19,7 @@ pub fn several_one_stands() -> u8
 }
 
 // If one goes round, there is a circle of links, and no row keeps them all.
+#[tactic(auto, using(crate::proofs::SeveralOrder::several_round))]
 pub fn several_round_stands() -> u8
     ensures { SeveralRound }
 {
@@ -24,6 +27,7 @@ pub fn several_round_stands() -> u8
 }
 
 // Only cards from the first to the last that a link names may have another place.
+#[tactic(auto, using(crate::proofs::SeveralBetween::several_between))]
 pub fn several_between_stands() -> u8
     ensures { SeveralBetween }
 {
@@ -31,6 +35,7 @@ pub fn several_between_stands() -> u8
 }
 
 // If the row keeps the links already, it stays as it is.
+#[tactic(auto, using(crate::proofs::SeveralRows::several_kept))]
 pub fn several_kept_stands() -> u8
     ensures { SeveralKept }
 {
@@ -45,6 +50,7 @@ pub fn several_single_stands() -> u8
 }
 
 // The order of the links doesn't matter for whether they are refused, nor for the reason.
+#[tactic(auto, using(crate::proofs::SeveralOrder::several_any_order))]
 pub fn several_any_order_stands() -> u8
     ensures { SeveralAnyOrder }
 {

@@ -4,6 +4,7 @@ ghost use Rattle.batch.specs.PlayLaws.{Plays, PlaysShows, PlaysUnfit};
 ghost use Rattle.batch.specs.Promise.{WholeIn, Fits};
 
 // The engine meets the promise, with each saying at its end within three steps.
+#[tactic(auto, using(crate::proofs::Wholly::whole_in_own))]
 pub fn whole_in_stands() -> u8
     ensures { WholeIn 3 own }
 {
@@ -11,6 +12,7 @@ pub fn whole_in_stands() -> u8
 }
 
 // Its answers fit what carries them, whatever stands in its memory.
+#[tactic(auto, using(crate::proofs::Wholly::own_fits))]
 pub fn fits_stands() -> u8
     ensures { Fits own }
 {
@@ -18,6 +20,7 @@ pub fn fits_stands() -> u8
 }
 
 // A saying that is played is done or refused as the board says, and the memory then means the board that it leaves.
+#[tactic(auto, using(crate::proofs::PlayedRun::plays_right))]
 pub fn plays_stands() -> u8
     ensures { Plays }
 {
@@ -32,6 +35,7 @@ pub fn plays_shows_stands() -> u8
 }
 
 // A saying that is played on a memory or with an output that doesn't fit is refused, and changes nothing.
+#[tactic(auto, using(crate::proofs::PlayedRun::plays_unfit))]
 pub fn plays_unfit_stands() -> u8
     ensures { PlaysUnfit }
 {

@@ -3,8 +3,8 @@ use crate::answer::{Answer, Course, Part};
 use crate::numbers::Numbers;
 use crate::saying::{Pair, Saying};
 use batch::{Event, play, step};
-use keeper::{Act, MEMORY, OUTPUT, Reason, read_row};
 use command::Command;
+use keeper::{Act, MEMORY, OUTPUT, Reason, read_row};
 use order::Link;
 use std::alloc::{AllocError, Global};
 

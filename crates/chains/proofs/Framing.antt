@@ -1,5 +1,5 @@
 -- The operations write to their table's column alone, and the chains of a table depend on its column alone.
-use Rattle.std.proofs.Common.{◌≡◌, ℕ, true, List, [], ◌∷◌, length, ap, ◌∙◌, arith}
+use Rattle.std.proofs.Common.{◌≡◌, ℕ, true, List, [], ◌∷◌, sym, ap, subst, subst₂}
 use Rattle.memory.specs.declared.column.Column.{Column}
 use Rattle.memory.specs.Columns.{cell}
 use Rattle.memory.specs.Footprints.{clear, Writes}
@@ -8,49 +8,26 @@ use Rattle.chains.specs.declared.cells.Pointer.{Pointer}
 use Rattle.chains.specs.declared.cells.Cell.{Cell}
 use Rattle.chains.specs.declared.chain_table.ChainTable.{ChainTable}
 use Rattle.chains.specs.Packing.{encoded, decoded}
-use Rattle.chains.specs.Tables.{node, at, put, pushed, unhooked, cleared}
-use Rattle.chains.specs.Chains.{Spells, Holds}
-use Rattle.chains.specs.Walks.{met, walked, met_by, walked_by}
+use Rattle.chains.specs.Tables.{at, put, pushed, unhooked, cleared}
+use Rattle.chains.specs.Chains.{Holds, HoldsBy}
+use Rattle.chains.specs.Walks.{walked, walked_by}
 use Rattle.chains.proofs.Packing.{encoded_word}
 use Rattle.chains.proofs.Walking.{Leads}
 
-pub spells_same : (F : ChainTable) (f f' : ℕ → Cell) → ((p : ℕ) → f' p ≡ f p) → (xs : List Pointer) (p : ℕ) → Spells F f p xs → Spells F f' p xs
-spells_same F f f' e [] p s = ap (λ (i : Cell). i.next.held) (e p) ∙ s
-spells_same F f f' e (x ∷ xs) p s =
-    (ap (λ (i : Cell). i.next) (e p) ∙ s.0, s.1, ap (λ (i : Cell). i.back) (e (node F x.held)) ∙ s.2, spells_same F f f' e xs (node F x.held) s.3)
-
-pub holds_same : (F : ChainTable) (m m' : List ℕ) (chains : ℕ → List Pointer) → ((p : ℕ) → cell m' F.cells p ≡ cell m F.cells p) → length m' ≡ length m
-    → Holds F m chains → Holds F m' chains
-holds_same F m m' chains e l h = record {
-  room = omega (arith, h.room);
-  small = h.small;
-  headed = h.headed;
-  spelled = λ k b. spells_same F (at F m) (at F m') (λ (p : ℕ). ap decoded (e p)) (chains k) k (h.spelled k b);
-}
-
-pub leads_same : (F : ChainTable) (f f' : ℕ → Cell) → ((p : ℕ) → f' p ≡ f p) → (xs : List Pointer) (p : ℕ) → Leads F f p xs → Leads F f' p xs
-leads_same F f f' e [] p s = ap (λ (i : Cell). i.next.held) (e p) ∙ s
-leads_same F f f' e (x ∷ xs) p s = (ap (λ (i : Cell). i.next) (e p) ∙ s.0, s.1, leads_same F f f' e xs (node F x.held) s.2)
-
 -- what is so after something was written that is clear of the table
-module _ (F : ChainTable) (fs : List Column) (c : clear fs F.cells ≡ true) (m n : List ℕ) (w : Writes fs m n) where
-  pub cells_kept : (p : ℕ) → cell n F.cells p ≡ cell m F.cells p
-  cells_kept p = w.others F.cells p c
+module _ (F : ChainTable) {fs : List Column} {m n : List ℕ} (w : Writes fs m n) (c : clear fs F.cells ≡ true) where
+  column_kept : cell m F.cells ≡ cell n F.cells
+  column_kept = λ t p. sym (w.others F.cells p c) t
 
-  pub column_kept : cell n F.cells ≡ cell m F.cells
-  column_kept = λ t p. cells_kept p t
-
-  pub holds_kept : (chains : ℕ → List Pointer) → Holds F m chains → Holds F n chains
-  holds_kept chains h = holds_same F m n chains cells_kept w.as_long h
-
-  pub met_kept : (p : ℕ) → met F n p ≡ met F m p
-  met_kept p = ap (λ (g : ℕ → ℕ). met_by g p) column_kept
-
-  pub walked_kept : (f p : ℕ) → walked f F n p ≡ walked f F m p
-  walked_kept f p = ap (λ (g : ℕ → ℕ). walked_by f F g p) column_kept
+  pub holds_kept : {chains : ℕ → List Pointer} → Holds F m chains → Holds F n chains
+  holds_kept {chains} h = subst₂ (λ (l : ℕ) (g : ℕ → ℕ). HoldsBy F l g chains) (sym w.as_long) column_kept h
 
   pub leads_kept : (xs : List Pointer) (p : ℕ) → Leads F (at F m) p xs → Leads F (at F n) p xs
-  leads_kept xs p s = leads_same F (at F m) (at F n) (λ (q : ℕ). ap decoded (cells_kept q)) xs p s
+  leads_kept xs p s = subst (λ (g : ℕ → ℕ). Leads F (λ q. decoded (g q)) p xs) column_kept s
+
+pub walked_kept : (F : ChainTable) (fs : List Column) → clear fs F.cells ≡ true → (m n : List ℕ) → Writes fs m n → (f p : ℕ)
+    → walked f F n p ≡ walked f F m p
+walked_kept F fs c m n w f p = ap (λ (g : ℕ → ℕ). walked_by f F g p) (sym (column_kept F w c))
 
 -- what the operations write
 module _ (F : ChainTable) (m : List ℕ) where

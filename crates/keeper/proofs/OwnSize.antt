@@ -13,13 +13,13 @@ use Rattle.memory.specs.Columns.{cell}
 use Rattle.memory.proofs.Cells.{small_cell}
 use Rattle.memory.proofs.Footprints.{same}
 use Rattle.memory.proofs.Options.{given_holds}
-use Rattle.row.specs.declared.layout.TheConstants.{IDS, SEATS}
+use Rattle.row.specs.declared.layout.TheConstants.{IDS, SEATS, COUNT}
 use Rattle.row.specs.Columns.{columns as row_columns}
 use Rattle.row.specs.Meaning.{taken, place_at}
 use Rattle.row.specs.Lookup.{found}
 use Rattle.row.specs.Telling.{next_seat}
 use Rattle.row.specs.Moves.{came, gone, place_found}
-use Rattle.row.proofs.Listing.{amount_le}
+use Rattle.row.proofs.Counting.{placed_below}
 use Rattle.row.proofs.Framing.{came_writes, gone_writes}
 use Rattle.links.specs.Table.{columns as link_columns}
 use Rattle.links.specs.Entries.{live, found as entry_found, inserted, removed}
@@ -155,8 +155,8 @@ unfolding place_found
 place_small m k =
     given_holds Any (PlaceSmall m) (found m k) _ _ tt tt (λ s _ h.
     let z = small_cell m SEATS s (small_each m h) in
-    let l : place_at m s ≤ cell m SEATS s = amount_le (taken m) (cell m SEATS s) in
-    omega arith)
+    let c = small_cell m COUNT 0 (small_each m h) in
+    placed_below m (cell m SEATS s) (2 ^ 64) z c)
 
 sized_places : (m : List ℕ) (a b : ℕ) → Sized m (shown_places m a b)
 sized_places m a b =

@@ -27,6 +27,7 @@ pub fn slots_of(memory: &Memory, link: Link) -> Option<Link>
 
 // Takes a link between cards back.
 #[tactic(auto, unfolding(crate::specs::Linking::unlinked))]
+#[inline(never)]
 pub(crate) fn unlink(memory: &mut Memory, link: Link) -> Result<Act, Reason>
     ensures { Ends (unlinked memory.old link) result memory.new }
 {
@@ -53,6 +54,7 @@ fn put_in(memory: &mut Memory, slots: Link) -> Result<Act, Reason>
 }
 
 // A card before itself goes round: it is the way alone.
+#[inline(never)]
 fn show_itself(memory: &mut Memory, card: u64, out: &mut Output) -> Act
     ensures { Gives (shown_itself memory.old card) out.old (Ok result) memory.new out.new }
 {

@@ -1,7 +1,9 @@
 // A command, played to its end.
 ghost use Rattle.std.specs.Prelude.{◌≡◌};
 ghost use Rattle.keeper.specs.Own.{own};
-ghost use Rattle.keeper.specs.Playing.{shown_then, ended_by, played_on, played, Went, read_count, row_read};
+ghost use Rattle.keeper.specs.declared.event.Event.TheVariants.{Next};
+ghost use Rattle.keeper.specs.declared.event.Telling.TheVariants.{PassedOver};
+ghost use Rattle.keeper.specs.Playing.{stepped, StepsTo, shown_then, ended_by, played_on, played, Went, read_count, row_read};
 ghost use Rattle.keeper.specs.PlayLaws.{Plays};
 ghost use Rattle.keeper.specs.Promise.{Whole};
 ghost use Rattle.keeper.specs.Sister.{WholeIn};
@@ -53,6 +55,14 @@ fn end(answer: Result<Act, Reason>, shown: u64) -> Played
     }
 }
 
+// Goes on by one step, and passes over what is told.
+#[inline(never)]
+fn take_next(memory: &mut [u64], out: &mut [u64]) -> Result<Act, Reason>
+    ensures { StepsTo (stepped PassedOver memory.old Next out.old) result memory.new out.new }
+{
+    step_as(memory, Event::Next, Telling::PassedOver, out)
+}
+
 // Goes on from a first answer up to the end of what was said, and passes over what is told. Two more steps are enough, unless the memory isn't a keeper's.
 #[inline(always)]
 pub fn play_on(memory: &mut [u64], first: Result<Act, Reason>, out: &mut [u64]) -> Played
@@ -65,7 +75,7 @@ pub fn play_on(memory: &mut [u64], first: Result<Act, Reason>, out: &mut [u64]) 
             break;
         };
         shown = so_far;
-        answer = step_as(memory, Event::Next, Telling::PassedOver, out);
+        answer = take_next(memory, out);
     }
     end(answer, shown)
 }

@@ -20,6 +20,7 @@ use order::Refusal;
 use row::{comes, goes, place_of};
 
 // A card comes.
+#[inline(never)]
 fn arrive(memory: &mut Memory, card: u64) -> Result<Act, Reason>
     ensures { Ends (ended (came memory.old card).answer (came memory.old card).memory) result memory.new }
 {
@@ -28,6 +29,7 @@ fn arrive(memory: &mut Memory, card: u64) -> Result<Act, Reason>
 }
 
 // A card goes, and its links with it.
+#[inline(never)]
 fn leave(memory: &mut Memory, card: u64) -> Result<Act, Reason>
     ensures { Ends (left memory.old card) result memory.new }
 {
@@ -37,6 +39,7 @@ fn leave(memory: &mut Memory, card: u64) -> Result<Act, Reason>
 }
 
 // Shows how many cards stand before each of the two.
+#[inline(never)]
 fn show_places(memory: &mut Memory, a: u64, b: u64, out: &mut Output) -> Result<Act, Reason>
     ensures { Gives (shown_places memory.old a b) out.old result memory.new out.new }
 {
@@ -74,6 +77,7 @@ fn say(
 
 // Goes on with the last command: more of the row, or its end.
 #[tactic(auto, using(crate::proofs::Writing::writing), unfolding(crate::specs::Answers::as_told, crate::specs::Own::went_on, crate::specs::Answers::still_to_come))]
+#[inline(never)]
 fn go_on(memory: &mut Memory, telling: Telling, out: &mut Output) -> Result<Act, Reason>
     ensures { Gives (as_told telling (went_on memory.old)) out.old result memory.new out.new }
 {

@@ -12,11 +12,12 @@ ghost use Rattle.keeper_c.specs.Answers.{CameTo};
 
 use crate::answer::KeeperAnswer;
 use batch::{Event, play};
-use keeper::read_row;
 use command::Command;
+use keeper::read_row;
 use order::Link;
 
 // A command is said to the engine that takes several links at once too, so that all functions are of one engine.
+#[inline(always)]
 fn say(memory: &mut [u64], command: Command, out: &mut [u64]) -> KeeperAnswer
     ensures went { CameTo (played memory.old (said (commanded command)) out.old) result memory.new out.new }
     ensures whole { WholeIn 3 own }

@@ -1,176 +1,99 @@
 -- All entries of a slot's chain are given back, and the chain is emptied.
-use Rattle.std.proofs.Common.{◌≡◌, ℕ, suc, ◌-◌, ◌<◌, ◌≤◌, true, false, not, ◌&&◌, ◌||◌, eqb, List, [], ◌∷◌, map, filter, length, refl, sym, ap, subst, ◌∙◌, inl, inr, arith}
-use Rattle.std.specs.List.{IsDistinct, AllByRecursion}
-use Rattle.std.proofs.lemmas.Map.Keys.{IsDistinct-head, IsDistinct-tail}
-use Rattle.std.proofs.lemmas.Bool.{cases_Bool, cases_eq, eqb-true, eqb-false, eq-eqb}
+use Rattle.std.proofs.Common.{◌≡◌, ℕ, ◌+◌, ◌-◌, ◌<◌, ◌≤◌, true, not, eqb, List, [], ◌∷◌, ◌++◌, filter, length, sym, subst, append_assoc, inl, inr, arith}
+use Rattle.std.proofs.lemmas.Bool.{cases_Bool}
 use Rattle.std.proofs.lemmas.Bool.Decides.{nat_tests}
 use Rattle.memory.specs.declared.column.Column.{Column}
-use Rattle.memory.specs.Footprints.{clear}
+use Rattle.memory.specs.Footprints.{clear, clear_all, Writes, view}
+use Rattle.memory.proofs.Footprints.{kept}
 use Rattle.order.specs.declared.board.Link.{Link}
-use Rattle.chains.specs.declared.cells.Pointer.{Pointer}
-use Rattle.chains.specs.declared.cells.Cell.{Cell}
 use Rattle.chains.specs.declared.chain_table.ChainTable.{ChainTable}
+use Rattle.chains.specs.declared.cells.Pointer.{Pointer}
 use Rattle.chains.specs.Tables.{node, at, unhooked, cleared}
-use Rattle.chains.specs.Chains.{Holds, has, emptied as chains_emptied}
+use Rattle.chains.specs.Chains.{Holds, emptied as chains_emptied}
 use Rattle.chains.specs.Laws.{Empties}
 use Rattle.chains.proofs.Walking.{Leads, leads, met_none, met_some}
-use Rattle.chains.proofs.Reading.{has_first, has_more, head_off, distinct, short, one_chain}
-use Rattle.chains.proofs.Framing.{holds_kept, unhooked_writes, cleared_writes, cells_kept, leads_same}
+use Rattle.chains.proofs.Reading.{head_off, short}
+use Rattle.chains.proofs.Framing.{holds_kept, leads_kept, unhooked_writes, cleared_writes}
 use Rattle.chains.proofs.Clearing.{empties}
-use Rattle.chains.specs.Packing.{decoded}
 use Rattle.links.specs.declared.layout.TheConstants.{ENTRIES, LIVE, AGE, PAIR}
 use Rattle.links.specs.Pairs.{is_between}
 use Rattle.links.specs.Entries.{pointer, freed, dropped, emptied}
 use Rattle.links.specs.Table.{Entry, point, part, listed, others}
-use Rattle.links.proofs.Filtering.{filter_all, filter_none, filter_both, filter_like, each_then, each_both, each_tested}
-use Rattle.links.proofs.Parting.{holds_like, part_listed, part_keeps, listed_others}
-use Rattle.links.proofs.Writing.{freed_writes}
-use Rattle.links.proofs.Freeing.{Beside, Side, beside_kept, given_back}
+use Rattle.links.proofs.Parting.{listed_between, others_between}
+use Rattle.links.proofs.Writing.{stepped, stepped_writes, dropped_writes, freed_writes}
+use Rattle.links.proofs.Coming.{holds_like, went, all_apart}
+use Rattle.links.proofs.Freeing.{inner, Rest, freed_rest}
 use Rattle.links.proofs.Turns.{dropped_none, dropped_some}
 
--- the entries left when those of a chain are taken out, one by one, each of them listed when its turn comes
-abbrev without : List Pointer → List Entry → List Entry
-without [] L = L
-without (y ∷ ys) L = without ys (others y.held L)
+-- a table by the slots of links: where its keys end, and that it shares nothing with the others
+pub record Side (G : ChainTable) (key : Link → ℕ) : Type 0 where
+  pub below : (z : Link) → is_between z ≡ true → key z < G.heads
+  pub size : G.cells.size ≤ G.heads + ENTRIES + 1
+  pub apart : clear_all (G.cells ∷ []) inner ≡ true
+  pub stays : clear (LIVE ∷ AGE.cells ∷ PAIR.cells ∷ []) G.cells ≡ true
 
-abbrev Listed : List Pointer → List Entry → Type 0
-Listed [] L = Unit {0}
-Listed (y ∷ ys) L = (listed y.held L ≡ true) × Listed ys (others y.held L)
+-- a table but for the chains of one of the slots
+pub record Beside (G : ChainTable) (key label : Link → ℕ) (m : List ℕ) (L : List Entry) : Type 0 where
+  pub free : List Pointer
+  pub across : Holds G m (part key label L)
+  pub rest : Rest (view inner m) 0 L free
 
-apart_at : (e h : ℕ) (ys : List Pointer) → AllByRecursion (λ j. eqb e j ≡ false) (map (λ x. x.held) ys) → has h ys ≡ true → e ≡ h → ⊥
-apart_at e h [] a t q = cc
-apart_at e h (y ∷ ys) a t q = elim (cases_Bool (eqb y.held h)) [
-  | inl u ↦ eqb-false e y.held a.0 (q ∙ sym (eqb-true y.held h u))
-  | inr u ↦ apart_at e h ys a.1 (let w : (eqb y.held h || has h ys) ≡ true = t in rw u at w) q
-]
+pub beside_kept : (G : ChainTable) (key label : Link → ℕ) (fs : List Column) → clear fs G.cells ≡ true → clear_all fs inner ≡ true → (m n : List ℕ)
+    → Writes fs m n → (L : List Entry) → Beside G key label m L → Beside G key label n L
+beside_kept G key label fs c d m n w L h =
+    record { free = h.free; across = holds_kept G w c h.across; rest = kept fs inner d m n w (λ v. Rest v 0 L h.free) h.rest }
 
-listed_from : (F : ChainTable) (f : ℕ → Cell) (ys : List Pointer) (L : List Entry) → IsDistinct eqb (map (λ x. x.held) ys)
-    → ((h : ℕ) → has h ys ≡ true → listed h L ≡ true) → Listed ys L
-listed_from F f [] L d a = tt
-listed_from F f (y ∷ ys) L d a = (
-  a y.held (has_first F f y ys),
-  listed_from F f ys (others y.held L) (IsDistinct-tail eqb y.held (map (λ x. x.held) ys) d)
-      (λ h t. listed_others y.held h L (apart_at y.held h ys (IsDistinct-head eqb y.held (map (λ x. x.held) ys) d) t) (a h (has_more F f y ys h t))),
-)
-
-without_is : (ys : List Pointer) (L : List Entry) → without ys L ≡ filter (λ y. not (has y.number ys)) L
-without_is [] L = sym (filter_all (λ y. true) L (λ y. refl))
-without_is (x ∷ ys) L =
-    without_is ys (others x.held L)
-    ∙ filter_both (λ y. not (eqb y.number x.held)) (λ y. not (has y.number ys)) (λ y. not (eqb x.held y.number || has y.number ys)) L (λ y. pointwise y)
-  where
-    pointwise : (y : Entry) → not (eqb x.held y.number || has y.number ys) ≡ (not (eqb y.number x.held) && not (has y.number ys))
-    pointwise y = elim (cases_eq x.held y.number) [
-      | inl e ↦ rw (eq-eqb x.held y.number e, eq-eqb y.number x.held (sym e)) refl
-      | inr n ↦ let u : eqb x.held y.number ≡ false = grind (arith, nat_tests) in let v : eqb y.number x.held ≡ false = grind (arith, nat_tests) in rw (u, v) refl
-    ]
+pub given_back : (G : ChainTable) (key label : Link → ℕ) → Side G key → (m : List ℕ) (L : List Entry) → Beside G key label m L → (e : ℕ)
+    → listed e L ≡ true → Beside G key label (freed (unhooked G m e) e) (others e L)
+given_back G key label s m L h e t = record {
+  free = pointer e 0 ∷ h.free;
+  across = holds_kept G (freed_writes _ e) s.stays (went G key label m L h.across e s.below h.rest.between t);
+  rest = freed_rest _ L h.free (kept (G.cells ∷ []) inner s.apart m _ (unhooked_writes G m e) (λ v. Rest v 0 L h.free) h.rest) e t;
+}
 
 -- along the chains of F, across those of G
-module _ (F G : ChainTable) (key label : Link → ℕ) (sf : Side F key) (sg : Side G label) (c : clear (G.cells ∷ []) F.cells ≡ true)
-    (d : clear (F.cells ∷ []) G.cells ≡ true) where
-  abbrev fs : List Column
-  fs = G.cells ∷ LIVE ∷ AGE.cells ∷ PAIR.cells ∷ []
+module _ (F G : ChainTable) (key label : Link → ℕ) (sf : Side F key) (sg : Side G label) (c : clear (stepped F G) F.cells ≡ true)
+    (d : clear (F.cells ∷ []) G.cells ≡ true) (s : ℕ) where
+  abbrev left : List Entry → List Entry
+  left L = filter (λ y. not (eqb (key y.link) s)) L
 
-  record Dropped (m m' : List ℕ) (L : List Entry) : Type 0 where
-    free : List Pointer
-    beside : Beside G label key m' L free
-    column : (q : ℕ) → at F m' q ≡ at F m q
-    chains : (a : ℕ → List Pointer) → Holds F m a → Holds F m' a
+  -- K are passed, M are to come
+  dropping : (M K : List Entry) (f : ℕ) (m : List ℕ) (p : ℕ) → Leads F (at F m) p (part key label M s) → length (part key label M s) ≤ f
+      → Beside G label key m (K ++ M) → Beside G label key (dropped f F G m p) (K ++ left M)
+  dropping [] K f m p l b h = rw (dropped_none F G m p f (met_none F m p l)) h
+  dropping (y ∷ M) K f m p l b h = elim (cases_Bool (eqb (key y.link) s)) [
+    | inl t ↦
+        let i = rw t at l in
+        let j : length (part key label M s) < f = rw t at b in
+        let a = others_between K y M (all_apart m _ h.free h.rest.ages) in
+        let g = rw a at (given_back G label key sg m _ h y.number (listed_between K y M)) in
+        let k = dropping M K (f - 1) _ (node F y.number) (leads_kept F (stepped_writes F G m y.number) c (part key label M s) _ i.2) (omega arith) g in
+        rw (t, dropped_some F G m p f (f - 1) (point label y) (omega arith) (met_some F m p (point label y) i.0 i.1)) k
+    | inr t ↦
+        let g = subst (λ (N : List Entry). Beside G label key m N) (sym (append_assoc K (y ∷ []) M)) h in
+        let k = dropping M (K ++ y ∷ []) f m p (rw t at l) (rw t at b) g in
+        rw t (subst (λ (N : List Entry). Beside G label key (dropped f F G m p) N) (append_assoc K (y ∷ []) (left M)) k)
+  ]
 
-  abbrev stepped : List ℕ → ℕ → List ℕ
-  stepped m h = freed (unhooked G m h) h
+  emptied_is : (L : List Entry) (k : ℕ) → chains_emptied s (part key label L) k ≡ part key label (left L) k
+  emptied_is [] k = grind arith
+  emptied_is (y ∷ L) k = let ih = emptied_is L k in grind (arith, nat_tests)
 
-  stepped_column : (m : List ℕ) (h q : ℕ) → at F (stepped m h) q ≡ at F m q
-  stepped_column m h q =
-      ap decoded (cells_kept F (LIVE ∷ AGE.cells ∷ PAIR.cells ∷ []) sf.stays (unhooked G m h) (stepped m h) (freed_writes (unhooked G m h) h) q
-      ∙ cells_kept F (G.cells ∷ []) c m (unhooked G m h) (unhooked_writes G m h) q)
-
-  stepped_chains : (m : List ℕ) (h : ℕ) (a : ℕ → List Pointer) → Holds F m a → Holds F (stepped m h) a
-  stepped_chains m h a x =
-      holds_kept F (LIVE ∷ AGE.cells ∷ PAIR.cells ∷ []) sf.stays (unhooked G m h) (stepped m h) (freed_writes (unhooked G m h) h) a
-      (holds_kept F (G.cells ∷ []) c m (unhooked G m h) (unhooked_writes G m h) a x)
-
-  dropping : (ys : List Pointer) (f : ℕ) (m : List ℕ) (p : ℕ) (L : List Entry) (free : List Pointer) → Leads F (at F m) p ys → length ys ≤ f
-      → Beside G label key m L free → Listed ys L → Dropped m (dropped f F G m p) (without ys L)
-  dropping [] f m p L free s b i l =
-      rw (dropped_none F G f m p (met_none F m p s)) (record { free = free; beside = i; column = λ q. refl; chains = λ a x. x })
-  dropping (x ∷ ys) f m p L free s b i l =
-      let n = stepped m x.held in
-      let g = given_back G label key sg m L free i x.held l.0 in
-      let e : f ≡ suc (f - 1) = omega arith in
-      let r = dropping ys (f - 1) n (node F x.held) (others x.held L) (pointer x.held 0 ∷ free)
-      (leads_same F (at F m) (at F n) (stepped_column m x.held) ys (node F x.held) s.2) (omega arith) g l.1 in
-      rw (dropped_some F G f (f - 1) m p x e (met_some F m p x s.0 s.1)) (record {
-        free = r.free;
-        beside = r.beside;
-        column = λ q. r.column q ∙ stepped_column m x.held q;
-        chains = λ a y. r.chains a (stepped_chains m x.held a y);
-      })
-
-  module _ (m : List ℕ) (s : ℕ) (b : s < F.heads) (L : List Entry) (free : List Pointer) (h : Holds F m (part key label L)) (t : Beside G label key m L free) where
-    abbrev chain : ℕ → List Pointer
-    chain = part key label L
-
-    abbrev left : List Entry
-    left = filter (λ y. not (eqb (key y.link) s)) L
-
-    each_in : (M : List Entry) → AllByRecursion (λ y. has y.number (part key label M (key y.link)) ≡ true) M
-    each_in [] = tt
-    each_in (y ∷ M) = (
-      rw (eq-eqb (key y.link) (key y.link) refl) (rw (eq-eqb y.number y.number refl) refl),
-      each_then _ _ M (λ z u. part_keeps key label y z.number M (key z.link) u) (each_in M),
-    )
-
-    same_test : (y : Entry) → (has y.number (chain (key y.link)) ≡ true) × (is_between y.link ≡ true) → not (has y.number (chain s)) ≡ not (eqb (key y.link) s)
-    same_test y i = elim (cases_Bool (eqb (key y.link) s)) [
-      | inl u ↦ let v : has y.number (chain s) ≡ true = subst (λ (k : ℕ). has y.number (chain k) ≡ true) (eqb-true (key y.link) s u) i.0 in rw (u, v) refl
-      | inr u ↦ elim (cases_Bool (has y.number (chain s))) [
-        | inl v ↦
-            let a = sf.below y.link i.1 in
-            absurd (eqb-false (key y.link) s u
-            (one_chain F (at F m) (chain (key y.link)) (chain s) (key y.link) s y.number a b (h.spelled (key y.link) a) (h.spelled s b) i.0 v))
-        | inr v ↦ rw (u, v) refl
-      ]
-    ]
-
-    left_is : without (chain s) L ≡ left
-    left_is = without_is (chain s) L ∙ filter_like (λ y. not (has y.number (chain s))) (λ y. not (eqb (key y.link) s)) L
-        (each_then _ _ L same_test (each_both _ _ L (each_in L) (each_tested _ L t.between)))
-
-    all_listed : Listed (chain s) L
-    all_listed = listed_from F (at F m) (chain s) L (distinct F (at F m) (chain s) s (h.spelled s b) (head_off F (at F m) (chain s) s b))
-        (λ e u. part_listed key label L s e u)
-
+  module _ (m : List ℕ) (b : s < F.heads) (L : List Entry) (h : Holds F m (part key label L)) (t : Beside G label key m L) where
     abbrev n : List ℕ
     n = dropped ENTRIES F G m s
 
-    all_dropped : Dropped m n left
-    all_dropped =
-        let l = short F (at F m) (chain s) s (h.spelled s b) (head_off F (at F m) (chain s) s b) in
-        let z = sf.size in
-        subst (λ (M : List Entry). Dropped m n M) left_is
-        (dropping (chain s) ENTRIES m s L free (leads F (at F m) (chain s) s (h.spelled s b)) (omega arith) t all_listed)
-
-    emptied_is : (k : ℕ) → chains_emptied s chain k ≡ part key label left k
-    emptied_is k = elim (cases_Bool (eqb k s)) [
-      | inl u ↦ rw u (sym (ap (map (point label))
-          (filter_both (λ y. not (eqb (key y.link) s)) (λ y. eqb (key y.link) k) (λ y. false) L (λ y. let e = eqb-true k s u in grind (arith, nat_tests))
-          ∙ filter_none (λ y. false) L (λ y. refl))))
-      | inr u ↦ rw u (sym (ap (map (point label))
-          (filter_both (λ y. not (eqb (key y.link) s)) (λ y. eqb (key y.link) k) (λ y. eqb (key y.link) k) L
-          (λ y. let e = eqb-false k s u in grind (arith, nat_tests)))))
-    ]
-
-    pub slot_emptied : Holds F (emptied F G m s) (part key label left)
+    pub slot_emptied : Holds F (emptied F G m s) (part key label (left L))
     unfolding emptied Empties
     slot_emptied =
-        holds_like F (cleared F n s) (chains_emptied s chain) (part key label left) (λ k l. emptied_is k)
-        (empties F n s chain (all_dropped.chains chain h) b)
+        holds_like F (cleared F n s) (chains_emptied s (part key label L)) (part key label (left L)) (λ k l. emptied_is L k)
+        (empties F n s (part key label L) (holds_kept F (dropped_writes F G ENTRIES m s) c h) b)
 
-    pub slot_beside : (fr : List Pointer) × Beside G label key (emptied F G m s) left fr
+    pub slot_beside : Beside G label key (emptied F G m s) (left L)
     unfolding emptied
-    slot_beside = (
-      all_dropped.free,
-      beside_kept G label key (F.cells ∷ []) n (cleared F n s) left all_dropped.free (cleared_writes F n s) d sf.ages_stay sf.pairs_stay sf.live_stays sf.used_stays
-          all_dropped.beside,
-    )
+    slot_beside =
+        let a = h.spelled s b in
+        let l = short F (at F m) (part key label L s) s a (head_off F (at F m) (part key label L s) s b) in
+        let z = sf.size in
+        beside_kept G label key (F.cells ∷ []) d sf.apart n _ (cleared_writes F n s) (left L)
+        (dropping L [] ENTRIES m s (leads F (at F m) (part key label L s) s a) (omega arith) t)

@@ -1,15 +1,12 @@
 -- An entry is given back.
-use Rattle.std.proofs.Common.{◌≡◌, ℕ, suc, ◌+◌, ◌-◌, ◌<◌, ◌≤◌, true, leb, List, [], ◌∷◌, length, refl, sym, ◌∙◌, subst, arith}
+use Rattle.std.proofs.Common.{◌≡◌, ℕ, ◌+◌, ◌-◌, ◌≤◌, true, leb, List, [], ◌∷◌, length, refl, sym, ◌∙◌, subst, lit<, arith}
 use Rattle.std.specs.List.{list_all}
 use Rattle.std.proofs.lemmas.Bool.{and_from, le-leb}
 use Rattle.memory.specs.declared.column.Column.{Column}
-use Rattle.memory.specs.Footprints.{clear, Writes}
-use Rattle.memory.proofs.Cells.{cell_same, small_cell}
-use Rattle.memory.proofs.Footprints.{put_one}
-use Rattle.order.specs.declared.board.Link.{Link}
+use Rattle.memory.specs.Footprints.{View, view}
+use Rattle.memory.proofs.Cells.{cell_same}
 use Rattle.chains.specs.declared.cells.Pointer.{Pointer}
-use Rattle.chains.specs.declared.chain_table.ChainTable.{ChainTable}
-use Rattle.chains.specs.Chains.{Holds}
+use Rattle.chains.specs.Chains.{Holds, HoldsBy}
 use Rattle.chains.specs.Tables.{unhooked}
 use Rattle.chains.proofs.Framing.{holds_kept, unhooked_writes, pushed_writes}
 use Rattle.links.specs.declared.layout.TheConstants.{ENTRIES, LIVE, USED, AGE, FREE, PAIR}
@@ -17,116 +14,67 @@ use Rattle.links.specs.Pairs.{is_between, pair, bucket}
 use Rattle.links.specs.Entries.{live, used, pointer, shelved, freed}
 use Rattle.links.specs.Table.{Entry, part, aged, listed, others}
 use Rattle.links.proofs.Pairing.{bucket_below}
-use Rattle.links.proofs.Filtering.{filter_tested}
-use Rattle.links.proofs.Parting.{others_lack, others_length, low_listed}
-use Rattle.links.proofs.Writing.{shelved_writes, freed_writes}
-use Rattle.links.proofs.Coming.{in_age, went, went_all, came_free, all_apart, not_free, above_zero}
+use Rattle.links.proofs.Filtering.{filter_lacks, filter_tested, low_listed}
+use Rattle.links.proofs.Parting.{others_length}
+use Rattle.links.proofs.Writing.{shelved_writes, set_writes, freed_writes}
+use Rattle.links.proofs.Coming.{in_range, went, went_all, came_free, all_apart, not_free, above_zero}
 
--- all that a table is but for the chains of one of the slots
-pub record Beside (G : ChainTable) (key label : Link → ℕ) (m : List ℕ) (L : List Entry) (free : List Pointer) : Type 0 where
-  pub across : Holds G m (part key label L)
-  pub ages : Holds AGE m (aged L free)
-  pub pairs : Holds PAIR m (part bucket pair L)
+-- the numbers of entries, u of which were ever in use, and k of which are neither listed nor free
+pub record Numbers (u k : ℕ) (L : List Entry) (free : List Pointer) : Type 0 where
+  pub filled : k + (length L + length free) ≡ u
+  pub room : u ≤ ENTRIES
+  pub low : list_all (λ y. leb y.number u) L ≡ true
+  pub low_free : list_all (λ x. leb x.held u) free ≡ true
+
+-- all that a table is but for the chains of the slots, and the columns that it is of
+abbrev pub inner : List Column
+inner = LIVE ∷ USED ∷ AGE.cells ∷ PAIR.cells ∷ []
+
+pub record Rest (v : View) (k : ℕ) (L : List Entry) (free : List Pointer) : Type 0 where
+  pub ages : HoldsBy AGE v.long (v.at AGE.cells) (aged L free)
+  pub pairs : HoldsBy PAIR v.long (v.at PAIR.cells) (part bucket pair L)
   pub between : list_all (λ y. is_between y.link) L ≡ true
-  pub count : live m ≡ length L
-  pub filled : length L + length free ≡ used m
-  pub room : used m ≤ ENTRIES
-  pub low : list_all (λ y. leb y.number (used m)) L ≡ true
-  pub low_free : list_all (λ x. leb x.held (used m)) free ≡ true
+  pub count : v.at LIVE 0 ≡ length L
+  pub numbers : Numbers (v.at USED 0) k L free
 
--- a table by the slots of links: where its keys end, and that it shares nothing with the others
-pub record Side (G : ChainTable) (key : Link → ℕ) : Type 0 where
-  pub below : (z : Link) → is_between z ≡ true → key z < G.heads
-  pub size : G.cells.size ≤ G.heads + ENTRIES + 1
-  pub live_stays : clear (G.cells ∷ []) LIVE ≡ true
-  pub used_stays : clear (G.cells ∷ []) USED ≡ true
-  pub ages_stay : clear (G.cells ∷ []) AGE.cells ≡ true
-  pub pairs_stay : clear (G.cells ∷ []) PAIR.cells ≡ true
-  pub stays : clear (LIVE ∷ AGE.cells ∷ PAIR.cells ∷ []) G.cells ≡ true
+module _ (m : List ℕ) (L : List Entry) (free : List Pointer) (r : Rest (view inner m) 0 L free) (e : ℕ) (t : listed e L ≡ true) where
+  abbrev M : List Entry
+  M = others e L
 
--- what is beside, after something was written elsewhere
-module _ (G : ChainTable) (key label : Link → ℕ) (fs : List Column) (m n : List ℕ) (L : List Entry) (free : List Pointer) (w : Writes fs m n) where
-  pub beside_kept : clear fs G.cells ≡ true → clear fs AGE.cells ≡ true → clear fs PAIR.cells ≡ true → clear fs LIVE ≡ true → clear fs USED ≡ true
-      → Beside G key label m L free → Beside G key label n L free
-  beside_kept g a p l u b =
-      let e : used n ≡ used m = w.others USED 0 u in
-      record {
-        across = holds_kept G fs g m n w (part key label L) b.across;
-        ages = holds_kept AGE fs a m n w (aged L free) b.ages;
-        pairs = holds_kept PAIR fs p m n w (part bucket pair L) b.pairs;
-        between = b.between;
-        count = w.others LIVE 0 l ∙ b.count;
-        filled = b.filled ∙ sym e;
-        room = rw e b.room;
-        low = subst (λ (n : ℕ). list_all (λ y. leb y.number n) L ≡ true) (sym e) b.low;
-        low_free = subst (λ (n : ℕ). list_all (λ x. leb x.held n) free ≡ true) (sym e) b.low_free;
-      }
+  low : e ≤ used m
+  low = low_listed (λ (y : Entry). y.number) (used m) e L r.numbers.low t
 
-module _ (G : ChainTable) (key label : Link → ℕ) (s : Side G key) (m : List ℕ) (L : List Entry) (free : List Pointer) (b : Beside G key label m L free) (e : ℕ)
-    (t : listed e L ≡ true) where
-  abbrev m₁ : List ℕ
-  m₁ = unhooked G m e
+  ages : Holds AGE (shelved m e) (aged M (pointer e 0 ∷ free))
+  ages =
+      came_free _ M free (went_all _ L free (holds_kept AGE (unhooked_writes PAIR m e) refl r.ages) e t) (pointer e 0)
+      (in_range AGE e 0 (above_zero m L free r.ages e t) (let b = r.numbers.room in let l = low in omega arith) (lit< tt) (lit< tt)) (filter_lacks _ L)
+      (not_free m L free r.ages e t)
 
-  abbrev m₂ : List ℕ
-  m₂ = unhooked PAIR m₁ e
+  pairs : Holds PAIR (shelved m e) (part bucket pair M)
+  pairs =
+      holds_kept PAIR (pushed_writes AGE _ FREE (pointer e 0)) refl (holds_kept PAIR (unhooked_writes AGE (unhooked PAIR m e) e) refl
+      (went PAIR bucket pair m L r.pairs e (λ z i. bucket_below z) r.between t))
 
-  abbrev m₃ : List ℕ
-  m₃ = unhooked AGE m₂ e
-
-  abbrev m₄ : List ℕ
-  m₄ = shelved m₁ e
-
-  w₁ : Writes (G.cells ∷ []) m m₁
-  w₁ = unhooked_writes G m e
-
-  pairs₂ : Holds PAIR m₂ (part bucket pair (others e L))
-  pairs₂ =
-      went PAIR bucket pair m₁ L (holds_kept PAIR (G.cells ∷ []) s.pairs_stay m m₁ w₁ (part bucket pair L) b.pairs) e (λ z i. bucket_below z) b.between t
-
-  ages₂ : Holds AGE m₂ (aged L free)
-  ages₂ =
-      holds_kept AGE (PAIR.cells ∷ []) refl m₁ m₂ (unhooked_writes PAIR m₁ e) (aged L free)
-      (holds_kept AGE (G.cells ∷ []) s.ages_stay m m₁ w₁ (aged L free) b.ages)
-
-  ages₄ : Holds AGE m₄ (aged (others e L) (pointer e 0 ∷ free))
-  ages₄ =
-      came_free m₃ (others e L) free (went_all m₂ L free ages₂ e t) (pointer e 0)
-      (in_age e 0 (above_zero m L free b.ages e t) (omega (arith, low_listed (used m) e L b.low t, b.room)) (omega arith)) (others_lack e L)
-      (not_free m L free b.ages e t)
-
-  pairs₄ : Holds PAIR m₄ (part bucket pair (others e L))
-  pairs₄ =
-      holds_kept PAIR (AGE.cells ∷ []) refl m₃ m₄ (pushed_writes AGE m₃ FREE (pointer e 0)) (part bucket pair (others e L))
-      (holds_kept PAIR (AGE.cells ∷ []) refl m₂ m₃ (unhooked_writes AGE m₂ e) (part bucket pair (others e L)) pairs₂)
-
-  counted₄ : live m₄ ≡ live m
-  counted₄ = (shelved_writes m₁ e).others LIVE 0 refl ∙ w₁.others LIVE 0 s.live_stays
-
-  used₅ : used (freed m₁ e) ≡ used m
-  used₅ = (freed_writes m₁ e).others USED 0 refl ∙ w₁.others USED 0 s.used_stays
-
-  w₅ : Writes (LIVE ∷ []) m₄ (freed m₁ e)
+  count : live (freed m e) ≡ length M
   unfolding freed
-  w₅ = put_one m₄ LIVE 0 (live m₄ - 1) (λ z. let b = small_cell m₄ LIVE 0 z in omega arith)
+  count =
+      cell_same (shelved m e) LIVE 0 (live (shelved m e) - 1) (lit< tt) (let a = ages.room in omega arith)
+      ∙ (let a : live (shelved m e) ≡ live m = (shelved_writes m e).others LIVE 0 refl in let c : live m ≡ length L = r.count in
+      let o = others_length e L (all_apart m L free r.ages) t in omega arith)
 
-  live₅ : live (freed m₁ e) ≡ live m₄ - 1
-  unfolding freed
-  live₅ = cell_same m₄ LIVE 0 (live m₄ - 1) (omega arith) (let r = pairs₄.room in omega arith)
+  numbers : Numbers (used m) 0 M (pointer e 0 ∷ free)
+  numbers = record {
+    filled = (let f : 0 + (length L + length free) ≡ used m = r.numbers.filled in let o = others_length e L (all_apart m L free r.ages) t in omega arith);
+    room = r.numbers.room;
+    low = filter_tested _ _ L r.numbers.low;
+    low_free = and_from _ _ (le-leb e (used m) low) r.numbers.low_free;
+  }
 
-  one_less : suc (length (others e L)) ≡ length L
-  one_less = others_length e L (all_apart m L free b.ages) t
-
-  pub given_back : Beside G key label (freed m₁ e) (others e L) (pointer e 0 ∷ free)
-  given_back = record {
-    across = holds_kept G (LIVE ∷ AGE.cells ∷ PAIR.cells ∷ []) s.stays m₁ (freed m₁ e) (freed_writes m₁ e) (part key label (others e L))
-        (went G key label m L b.across e s.below b.between t);
-    ages = holds_kept AGE (LIVE ∷ []) refl m₄ (freed m₁ e) w₅ (aged (others e L) (pointer e 0 ∷ free)) ages₄;
-    pairs = holds_kept PAIR (LIVE ∷ []) refl m₄ (freed m₁ e) w₅ (part bucket pair (others e L)) pairs₄;
-    between = filter_tested _ _ L b.between;
-    count = live₅ ∙ (let c = counted₄ in let d = b.count in let o = one_less in omega arith);
-    filled = (let o = one_less in let f = b.filled in omega arith) ∙ sym used₅;
-    room = rw used₅ b.room;
-    low = subst (λ (n : ℕ). list_all (λ y. leb y.number n) (others e L) ≡ true) (sym used₅) (filter_tested _ _ L b.low);
-    low_free = subst (λ (n : ℕ). list_all (λ x. leb x.held n) (pointer e 0 ∷ free) ≡ true) (sym used₅)
-        (and_from _ _ (le-leb e (used m) (low_listed (used m) e L b.low t)) b.low_free);
+  pub freed_rest : Rest (view inner (freed m e)) 0 M (pointer e 0 ∷ free)
+  freed_rest = record {
+    ages = holds_kept AGE (set_writes m e) refl ages;
+    pairs = holds_kept PAIR (set_writes m e) refl pairs;
+    between = filter_tested _ _ L r.between;
+    count = count;
+    numbers = subst (λ (u : ℕ). Numbers u 0 M (pointer e 0 ∷ free)) (sym ((freed_writes m e).others USED 0 refl)) numbers;
   }

@@ -1,6 +1,6 @@
 -- What walks along the chains give.
-use Rattle.std.proofs.Common.{◌≡◌, ℕ, ◌+◌, ◌<◌, ◌≤◌, ◌&&◌, eqb, List, [], ◌∷◌, ◌++◌, map, filter, reverse, length, refl, sym, ap, subst, ◌∙◌, lit<, lit≤, arith}
-use Rattle.std.proofs.lemmas.List.{reverse-reverse, length-map, length-reverse}
+use Rattle.std.proofs.Common.{◌≡◌, ℕ, Bool, ◌+◌, ◌<◌, ◌≤◌, ◌&&◌, eqb, List, [], ◌∷◌, map, filter, reverse, refl, lit≤, arith}
+use Rattle.std.proofs.lemmas.List.{reverse-reverse, map-append}
 use mathlib.Core.List.{reverse-cons}
 use Rattle.memory.specs.Footprints.{view}
 use Rattle.order.specs.declared.board.TheConstants.{CARDS}
@@ -10,29 +10,22 @@ use Rattle.order.specs.Lists.{any, filter as kept}
 use Rattle.chains.specs.declared.cells.Pointer.{Pointer}
 use Rattle.chains.specs.declared.chain_table.ChainTable.{ChainTable}
 use Rattle.chains.specs.Chains.{Holds}
-use Rattle.chains.specs.Tables.{at}
 use Rattle.chains.specs.Walks.{walked}
-use Rattle.chains.proofs.Walking.{Leads, leads}
 use Rattle.links.specs.declared.layout.TheConstants.{ENTRIES, OUT, IN, AGE, ALL}
-use Rattle.links.specs.Pairs.{pair, unpair, joins}
-use Rattle.links.specs.Table.{columns, edges, Entry, point, part, aged, TableOf, IsTable}
+use Rattle.links.specs.Pairs.{pair, joins}
+use Rattle.links.specs.Table.{columns, edges, Entry, point, part, TableOf, IsTable}
 use Rattle.links.specs.Laws.{Gives}
-use Rattle.links.proofs.Filtering.{any_reverse, any_kept, any_like, any_map}
+use Rattle.links.proofs.Filtering.{any_reverse, any_kept, any_map}
 use Rattle.links.proofs.Telling.{links_of, walked_is, all_walked, edges_is, edges_kept, links_filter}
 
 labels : (f : Link → ℕ) (L : List Entry) → map (λ x. x.label) (map (point f) L) ≡ map f (links_of L)
 labels f [] = refl
-labels f (y ∷ L) = ap (λ (ns : List ℕ). f y.link ∷ ns) (labels f L)
+labels f (y ∷ L) = let ih = labels f L in grind arith
 
-map_append : {A B : Type 0} (f : A → B) (xs ys : List A) → map f (xs ++ ys) ≡ map f xs ++ map f ys
-map_append f [] ys = refl
-map_append f (x ∷ xs) ys = ap (λ zs. f x ∷ zs) (map_append f xs ys)
-
-pub map_reverse : {A B : Type 0} (f : A → B) (xs : List A) → map f (reverse xs) ≡ reverse (map f xs)
+map_reverse : {A B : Type 0} (f : A → B) (xs : List A) → map f (reverse xs) ≡ reverse (map f xs)
 map_reverse f [] = refl
 map_reverse f (x ∷ xs) =
-    ap (map f) (reverse-cons x xs) ∙ (map_append f (reverse xs) (x ∷ [])
-    ∙ (ap (λ zs. zs ++ f x ∷ []) (map_reverse f xs) ∙ sym (reverse-cons (f x) (map f xs))))
+    let ih = map_reverse f xs in let a = map-append f (reverse xs) (x ∷ []) in let r = reverse-cons x xs in let s = reverse-cons (f x) (map f xs) in cc
 
 module _ (m : List ℕ) (h : IsTable m) where
   abbrev L : List Entry
@@ -41,79 +34,38 @@ module _ (m : List ℕ) (h : IsTable m) where
   abbrev t : TableOf (view columns m) L h.table.free
   t = h.table.table
 
-  part_labels : (key label : Link → ℕ) (s : ℕ) → map (λ x. x.label) (part key label L s) ≡ reverse (map label (kept (λ y. eqb (key y) s) (edges m)))
-  part_labels key label s =
-      labels label (filter (λ y. eqb (key y.link) s) L)
-      ∙ (ap (map label) (links_filter (λ y. eqb (key y) s) L)
-      ∙ (sym (reverse-reverse (map label (kept (λ y. eqb (key y) s) (links_of L))))
-      ∙ ap reverse (sym (map_reverse label (kept (λ y. eqb (key y) s) (links_of L)))
-      ∙ ap (map label) (sym (edges_kept m L h.table.free t (λ y. eqb (key y) s))))))
+  -- what is told along the chain of a slot, and whether a number is told
+  module _ (F : ChainTable) (key label : Link → ℕ) (c : Holds F m (part key label L)) (s : ℕ) (b : s < F.heads)
+      (z : F.cells.size ≤ F.heads + ENTRIES + 1) where
+    walked_gives : map (λ x. x.label) (walked ENTRIES F m s) ≡ reverse (map label (kept (λ y. eqb (key y) s) (edges m)))
+    walked_gives =
+        let w = walked_is F m (part key label L) s c b z in let a = labels label (filter (λ y. eqb (key y.link) s) L) in
+        let k = links_filter (λ y. eqb (key y) s) L in let e = edges_kept m L h.table.free t (λ y. eqb (key y) s) in
+        let r = map_reverse label (kept (λ y. eqb (key y) s) (links_of L)) in
+        let u = reverse-reverse (map label (kept (λ y. eqb (key y) s) (links_of L))) in cc
+
+    walked_has : (k : ℕ) (r : Link → Bool) → ((y : Link) → r y ≡ (eqb (key y) s && eqb (label y) k))
+        → any (λ x. eqb x.label k) (walked ENTRIES F m s) ≡ any r (edges m)
+    walked_has k r e =
+        let w = walked_gives in let a = any_map (λ i. eqb i k) (λ (x : Pointer). x.label) (walked ENTRIES F m s) in
+        let u = any_reverse (λ i. eqb i k) (map label (kept (λ y. eqb (key y) s) (edges m))) in
+        let d = any_map (λ i. eqb i k) label (kept (λ y. eqb (key y) s) (edges m)) in
+        let l = any_kept (λ y. eqb (key y) s) (λ y. eqb (label y) k) r e (edges m) in cc
 
   pub out_gives : (s : ℕ) → s < CARDS → map (λ x. x.label) (walked ENTRIES OUT m s) ≡ reverse (map (λ y. y.to) (kept (λ y. eqb y.from s) (edges m)))
-  out_gives s b =
-      ap (map (λ x. x.label)) (walked_is OUT m (part (λ x. x.from) (λ x. x.to) L) s t.outs b (lit≤ tt)) ∙ part_labels (λ x. x.from) (λ x. x.to) s
-
-  pub in_gives : (s : ℕ) → s < CARDS → map (λ x. x.label) (walked ENTRIES IN m s) ≡ reverse (map (λ y. y.from) (kept (λ y. eqb y.to s) (edges m)))
-  in_gives s b =
-      ap (map (λ x. x.label)) (walked_is IN m (part (λ x. x.to) (λ x. x.from) L) s t.ins b (lit≤ tt)) ∙ part_labels (λ x. x.to) (λ x. x.from) s
+  out_gives s b = walked_gives OUT (λ x. x.from) (λ x. x.to) t.outs s b (lit≤ tt)
 
   pub age_gives : map (λ x. x.label) (walked ENTRIES AGE m ALL) ≡ reverse (map pair (edges m))
   age_gives =
-      ap (map (λ x. x.label)) (all_walked m L h.table.free t)
-      ∙ (labels pair L
-      ∙ (sym (reverse-reverse (map pair (links_of L)))
-      ∙ ap reverse (sym (map_reverse pair (links_of L)) ∙ ap (map pair) (sym (edges_is m L h.table.free t)))))
-
-  -- what a slot is linked to, and what to it
-  labelled : (xs : List Pointer) (k : ℕ) (ks : List ℕ) → map (λ x. x.label) xs ≡ reverse ks → any (λ x. eqb x.label k) xs ≡ any (λ i. eqb i k) ks
-  labelled xs k ks e = sym (any_map (λ i. eqb i k) (λ (x : Pointer). x.label) xs) ∙ (ap (any (λ i. eqb i k)) e ∙ any_reverse (λ i. eqb i k) ks)
-
-  pub out_has : (a b : ℕ) → a < CARDS → any (λ x. eqb x.label b) (walked ENTRIES OUT m a) ≡ any (joins (a ⟶ b)) (edges m)
-  out_has a b i =
-      labelled (walked ENTRIES OUT m a) b (map (λ y. y.to) (kept (λ y. eqb y.from a) (edges m))) (out_gives a i)
-      ∙ (any_map (λ k. eqb k b) (λ (y : Link). y.to) (kept (λ y. eqb y.from a) (edges m))
-      ∙ any_kept (λ y. eqb y.from a) (λ y. eqb y.to b) (edges m))
-
-  pub in_has : (a b : ℕ) → b < CARDS → any (λ x. eqb x.label a) (walked ENTRIES IN m b) ≡ any (joins (a ⟶ b)) (edges m)
-  in_has a b i =
-      labelled (walked ENTRIES IN m b) a (map (λ y. y.from) (kept (λ y. eqb y.to b) (edges m))) (in_gives b i)
-      ∙ (any_map (λ k. eqb k a) (λ (y : Link). y.from) (kept (λ y. eqb y.to b) (edges m))
-      ∙ (any_kept (λ y. eqb y.to b) (λ y. eqb y.from a) (edges m)
-      ∙ any_like (λ y. eqb y.to b && eqb y.from a) (joins (a ⟶ b)) (λ y. grind arith) (edges m)))
-
-  -- how many
-  counted : (f : Link → ℕ) (xs : List Pointer) (ys : List Link) → map (λ x. x.label) xs ≡ reverse (map f ys) → length xs ≡ length ys
-  counted f xs ys e =
-      sym (length-map xs (λ (x : Pointer). x.label)) ∙ (ap length e ∙ (length-reverse (map f ys) ∙ length-map ys f))
-
-  pub out_count : (s : ℕ) → s < CARDS → length (walked ENTRIES OUT m s) ≡ length (kept (λ y. eqb y.from s) (edges m))
-  out_count s b = counted (λ y. y.to) (walked ENTRIES OUT m s) (kept (λ y. eqb y.from s) (edges m)) (out_gives s b)
-
-  pub in_count : (s : ℕ) → s < CARDS → length (walked ENTRIES IN m s) ≡ length (kept (λ y. eqb y.to s) (edges m))
-  in_count s b = counted (λ y. y.from) (walked ENTRIES IN m s) (kept (λ y. eqb y.to s) (edges m)) (in_gives s b)
-
-  pub age_count : length (walked ENTRIES AGE m ALL) ≡ length (edges m)
-  age_count = counted pair (walked ENTRIES AGE m ALL) (edges m) age_gives
-
-  pub age_links : map (λ x. unpair x.label) (walked ENTRIES AGE m ALL) ≡ reverse (edges m)
-  unfolding edges
-  age_links = sym (reverse-reverse (map (λ x. unpair x.label) (walked ENTRIES AGE m ALL)))
-
-  -- from a slot on the places lead through its chain: whoever walks step by step goes by this
-  led : (F : ChainTable) (chains : ℕ → List Pointer) (k : ℕ) → Holds F m chains → k < F.heads → F.cells.size ≤ F.heads + ENTRIES + 1
-      → Leads F (at F m) k (walked ENTRIES F m k)
-  led F chains k c b s =
-      subst (λ (xs : List Pointer). Leads F (at F m) k xs) (sym (walked_is F m chains k c b s)) (leads F (at F m) (chains k) k (c.spelled k b))
-
-  pub out_leads : (s : ℕ) → s < CARDS → Leads OUT (at OUT m) s (walked ENTRIES OUT m s)
-  out_leads s b = led OUT (part (λ x. x.from) (λ x. x.to) L) s t.outs b (lit≤ tt)
-
-  pub in_leads : (s : ℕ) → s < CARDS → Leads IN (at IN m) s (walked ENTRIES IN m s)
-  in_leads s b = led IN (part (λ x. x.to) (λ x. x.from) L) s t.ins b (lit≤ tt)
-
-  pub age_leads : Leads AGE (at AGE m) ALL (walked ENTRIES AGE m ALL)
-  age_leads = led AGE (aged L h.table.free) ALL t.ages (lit< tt) (lit≤ tt)
+      let w = all_walked m L h.table.free t in let a = labels pair L in let e = edges_is m L h.table.free t in
+      let r = map_reverse pair (links_of L) in let u = reverse-reverse (map pair (links_of L)) in cc
 
 pub gives : Gives
 unfolding Gives
-gives m h = (out_gives m h, in_gives m h, out_has m h, in_has m h, age_gives m h)
+gives m h = (
+  out_gives m h,
+  λ s b. walked_gives m h IN (λ x. x.to) (λ x. x.from) h.table.table.ins s b (lit≤ tt),
+  λ a b i. walked_has m h OUT (λ x. x.from) (λ x. x.to) h.table.table.outs a i (lit≤ tt) b (joins (a ⟶ b)) (λ y. refl),
+  λ a b i. walked_has m h IN (λ x. x.to) (λ x. x.from) h.table.table.ins b i (lit≤ tt) a (joins (a ⟶ b)) (λ y. grind arith),
+  age_gives m h,
+)

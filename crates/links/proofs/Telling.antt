@@ -1,7 +1,6 @@
 -- What the chains of a table tell of its links.
-use Rattle.std.proofs.Common.{◌≡◌, ℕ, ◌+◌, ◌<◌, ◌≤◌, Bool, true, List, [], ◌∷◌, map, filter, reverse, length, refl, ap, ap₂, ◌∙◌, inl, inr, lit<, lit≤}
+use Rattle.std.proofs.Common.{◌≡◌, ℕ, ◌+◌, ◌<◌, ◌≤◌, Bool, true, List, [], ◌∷◌, map, filter, reverse, length, refl, ap, ◌∙◌, lit<, lit≤, arith}
 use Rattle.std.specs.List.{list_all, list_any}
-use Rattle.std.proofs.lemmas.Bool.{cases_Bool, and_parts}
 use Rattle.std.proofs.lemmas.List.{length-map, length-reverse}
 use Rattle.memory.specs.Footprints.{view}
 use Rattle.order.specs.declared.board.Link.{Link}
@@ -29,9 +28,7 @@ walked_is F m chains k h b s = reads F m k ENTRIES chains h b s
 
 unpaired : (L : List Entry) → list_all (λ y. is_between y.link) L ≡ true → map (λ x. unpair x.label) (map (point pair) L) ≡ links_of L
 unpaired [] a = refl
-unpaired (y ∷ L) a =
-    let p = and_parts (is_between y.link) (list_all (λ z. is_between z.link) L) a in
-    ap₂ (λ (x : Link) (xs : List Link). x ∷ xs) (unpair_pair y.link p.0) (unpaired L p.1)
+unpaired (y ∷ L) a = let ih = unpaired L in let e = unpair_pair y.link in grind arith
 
 module _ (m : List ℕ) (L : List Entry) (free : List Pointer) (t : TableOf (view columns m) L free) where
   pub all_walked : walked ENTRIES AGE m ALL ≡ map (point pair) L
@@ -57,17 +54,14 @@ module _ (m : List ℕ) (L : List Entry) (free : List Pointer) (t : TableOf (vie
 pub links_filter : (p : Link → Bool) (L : List Entry) → links_of (filter (λ y. p y.link) L) ≡ kept p (links_of L)
 unfolding kept
 links_filter p [] = refl
-links_filter p (y ∷ L) = elim (cases_Bool (p y.link)) [
-  | inl t ↦ rw t (ap (λ (xs : List Link). y.link ∷ xs) (links_filter p L))
-  | inr t ↦ rw t (links_filter p L)
-]
+links_filter p (y ∷ L) = let ih = links_filter p L in grind arith
 
 pub links_any : (p : Link → Bool) (L : List Entry) → list_any (λ y. p y.link) L ≡ any p (links_of L)
 unfolding any
 links_any p [] = refl
-links_any p (y ∷ L) = elim (cases_Bool (p y.link)) [ inl t ↦ rw t refl | inr t ↦ rw t (links_any p L) ]
+links_any p (y ∷ L) = let ih = links_any p L in grind arith
 
 pub links_every : (p : Link → Bool) (L : List Entry) → list_all (λ y. p y.link) L ≡ every p (links_of L)
 unfolding every
 links_every p [] = refl
-links_every p (y ∷ L) = elim (cases_Bool (p y.link)) [ inl t ↦ rw t (links_every p L) | inr t ↦ rw t refl ]
+links_every p (y ∷ L) = let ih = links_every p L in grind arith

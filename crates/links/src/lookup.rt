@@ -21,7 +21,7 @@ fn seek(memory: &Memory, key: u64, label: u64) -> Option<u64>
 
 // The entry of a link, if it's there.
 #[tactic(auto, using(crate::proofs::Promises::finds_so), unfolding(crate::specs::Entries::found))]
-#[inline(always)]
+#[inline(never)]
 pub fn find(memory: &Memory, link: Link) -> Option<u64>
     ensures is { result ≡ found memory.now link }
     ensures finds { Finds memory.now link result }

@@ -1,6 +1,5 @@
 -- Only the column itself is written, and what is marked depends on its cells alone.
-use Rattle.std.proofs.Common.{◌≡◌, ℕ, zero, suc, ◌+◌, ◌/◌, ◌%◌, ◌^◌, Bool, not, ◌&&◌, ◌||◌, eqb, ltb, List, [], ◌∷◌, Some, None, Option, sym, ap, ◌∙◌, arith}
-use lib.Bits.{bit_xor}
+use Rattle.std.proofs.Common.{◌≡◌, ℕ, zero, suc, ◌+◌, ◌/◌, ◌%◌, Bool, not, ◌&&◌, eqb, ltb, List, [], ◌∷◌, Some, None, Option, sym, ap, ◌∙◌, arith}
 use Rattle.std.proofs.lemmas.Nat.{xor_lt, pow_below}
 use Rattle.memory.specs.declared.place_set.TheConstants.{PLACES, WORDS, TOPS}
 use Rattle.memory.specs.declared.column.Column.{Column}
@@ -15,49 +14,40 @@ use Rattle.memory.proofs.Footprints.{same, on, either, put_one}
 module _ (c : Column) where
   writes_flipped : (m : List ℕ) (s i : ℕ) → Writes (c ∷ []) m (flipped m c s i)
   unfolding flipped
-  writes_flipped m s i =
-      put_one m c (s + i / 64) (bit_xor (cell m c (s + i / 64)) (2 ^ (i % 64)))
-      (λ a. xor_lt 64 (cell m c (s + i / 64)) (2 ^ (i % 64)) (small_cell m c (s + i / 64) a) (pow_below (i % 64) 64 (omega arith)))
+  writes_flipped m s i = put_one m c _ _ (λ a. xor_lt 64 _ _ (small_cell m c (s + i / 64) a) (pow_below (i % 64) 64 (omega arith)))
 
   writes_toggled : (m : List ℕ) (p : ℕ) → Writes (c ∷ []) m (toggled m c p)
   unfolding toggled
-  writes_toggled m p =
-      either (c ∷ []) m (eqb (cell m c (p / 64)) 0 || eqb (cell (flipped m c 0 p) c (p / 64)) 0) (flipped (flipped m c 0 p) c WORDS (p / 64)) (flipped m c 0 p)
-      (on (c ∷ []) m (flipped m c 0 p) (flipped (flipped m c 0 p) c WORDS (p / 64)) (writes_flipped m 0 p) (writes_flipped (flipped m c 0 p) WORDS (p / 64)))
-      (writes_flipped m 0 p)
+  writes_toggled m p = let w = writes_flipped m 0 p in either _ m _ _ _ (on _ m _ _ w (writes_flipped _ WORDS (p / 64))) w
 
   pub writes_added : (m : List ℕ) (p : ℕ) → Writes (c ∷ []) m (added m c p)
   unfolding added
-  writes_added m p = either (c ∷ []) m (fresh m c p) (toggled m c p) m (writes_toggled m p) (same (c ∷ []) m)
+  writes_added m p = either _ m (fresh m c p) _ _ (writes_toggled m p) (same _ m)
 
   pub writes_removed : (m : List ℕ) (p : ℕ) → Writes (c ∷ []) m (removed m c p)
   unfolding removed
-  writes_removed m p = either (c ∷ []) m (marked m c p) (toggled m c p) m (writes_toggled m p) (same (c ∷ []) m)
-
-  writes_given : (m : List ℕ) (o : Option ℕ) (g : ℕ → List ℕ) → ((v : ℕ) → Writes (c ∷ []) m (g v)) → Writes (c ∷ []) m (given o m g)
-  writes_given m None g h = same (c ∷ []) m
-  writes_given m (Some v) g h = h v
+  writes_removed m p = either _ m (marked m c p) _ _ (writes_toggled m p) (same _ m)
 
   zeroed : (m : List ℕ) (i : ℕ) → Writes (c ∷ []) m (written m c i 0)
   zeroed m i = put_one m c i 0 (λ _. omega arith)
 
+  given_one : (m : List ℕ) (o : Option ℕ) (g : ℕ → List ℕ) → ((v : ℕ) → Writes (c ∷ []) (written m c v 0) (g v)) → Writes (c ∷ []) m (given o m g)
+  given_one m None g h = same _ m
+  given_one m (Some v) g h = on _ m _ _ (zeroed m v) (h v)
+
   writes_cleared : (f : ℕ) (m : List ℕ) (w : ℕ) → Writes (c ∷ []) m (cleared f m c w)
   unfolding cleared
-  writes_cleared zero m w = same (c ∷ []) m
-  writes_cleared (suc f) m w =
-      writes_given m (word_up m c w) (λ v. cleared f (written m c v 0) c (v + 1))
-      (λ v. on (c ∷ []) m (written m c v 0) (cleared f (written m c v 0) c (v + 1)) (zeroed m v) (writes_cleared f (written m c v 0) (v + 1)))
+  writes_cleared zero m w = same _ m
+  writes_cleared (suc f) m w = given_one m (word_up m c w) _ (λ v. writes_cleared f _ (v + 1))
 
   writes_untopped : (f : ℕ) (m : List ℕ) (t : ℕ) → Writes (c ∷ []) m (untopped f m c t)
   unfolding untopped
-  writes_untopped zero m t = same (c ∷ []) m
-  writes_untopped (suc f) m t =
-      on (c ∷ []) m (written m c (WORDS + t) 0) (untopped f (written m c (WORDS + t) 0) c (t + 1)) (zeroed m (WORDS + t)) (writes_untopped f (written m c (WORDS + t) 0) (t + 1))
+  writes_untopped zero m t = same _ m
+  writes_untopped (suc f) m t = on _ m _ _ (zeroed m (WORDS + t)) (writes_untopped f _ (t + 1))
 
   pub writes_wiped : (m : List ℕ) → Writes (c ∷ []) m (wiped m c)
   unfolding wiped
-  writes_wiped m =
-      on (c ∷ []) m (cleared WORDS m c 0) (untopped TOPS (cleared WORDS m c 0) c 0) (writes_cleared WORDS m 0) (writes_untopped TOPS (cleared WORDS m c 0) 0)
+  writes_wiped m = on _ m _ _ (writes_cleared WORDS m 0) (writes_untopped TOPS _ 0)
 
 bit_alone : (m n : List ℕ) (c : Column) (s i : ℕ) → ((j : ℕ) → cell n c j ≡ cell m c j) → bit n c s i ≡ bit m c s i
 unfolding bit

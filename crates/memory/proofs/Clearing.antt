@@ -2,10 +2,9 @@
 use Rattle.std.proofs.Common.{◌≡◌, ℕ, ◌+◌, ◌-◌, ◌<◌, ◌≤◌, List}
 use Rattle.memory.specs.declared.column.Column.{Column}
 use Rattle.memory.specs.Columns.{written}
-use Rattle.memory.specs.declared.place_set.TheConstants.{WORDS}
 use Rattle.memory.specs.Options.{given}
 use Rattle.memory.proofs.Fuel.{fuel_step, fuel_end}
-use Rattle.memory.specs.PlaceSets.{word_up, cleared, untopped}
+use Rattle.memory.specs.PlaceSets.{word_up, cleared}
 
 pub cleared_at : (N i : ℕ) (m : List ℕ) (c : Column) (w : ℕ) → i < N →
     cleared (N - i) m c w ≡ given (word_up m c w) m (λ v. cleared (N - (i + 1)) (written m c v 0) c (v + 1))
@@ -17,13 +16,3 @@ unfolding cleared
 cleared_end N i m c w h = fuel_end (λ f. cleared f m c w) N i h
 
 pub ruleset steps = (cleared_at, cleared_end)
-
-pub untopped_at : (N i : ℕ) (m : List ℕ) (c : Column) → i < N → untopped (N - i) m c i ≡ untopped (N - (i + 1)) (written m c (WORDS + i) 0) c (i + 1)
-unfolding untopped
-untopped_at N i m c h = fuel_step (λ f. untopped f m c i) N i h
-
-pub untopped_end : (N i j : ℕ) (m : List ℕ) (c : Column) → N ≤ i → untopped (N - i) m c j ≡ m
-unfolding untopped
-untopped_end N i j m c h = fuel_end (λ f. untopped f m c j) N i h
-
-pub ruleset tops = (untopped_at, untopped_end)

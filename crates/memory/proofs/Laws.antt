@@ -1,30 +1,16 @@
 -- The laws that the functions of sets of places name in their contracts, from what their models do.
-use Rattle.std.proofs.Common.{◌≡◌, ℕ, ◌<◌, ◌≤◌, Bool, not, ◌&&◌, ◌||◌, eqb, ltb, List, Option, ⊎_elim, arith}
-use Rattle.std.proofs.lemmas.Bool.{cases_lt}
-use Rattle.std.proofs.lemmas.Bool.Decides.{nat_tests}
+use Rattle.std.proofs.Common.{◌≡◌, ℕ, Bool, List, Option}
 use Rattle.memory.specs.declared.column.Column.{Column}
-use Rattle.memory.specs.declared.place_set.TheConstants.{PLACES}
 use Rattle.memory.specs.PlaceSets.{marked, fresh, added, removed, next_up, first_mark, next_down, wiped}
-use Rattle.memory.specs.PlaceSetLaws.{Summed, Adds, Removes, Wipes, NextUp, NextDown, Firsts}
-use Rattle.memory.proofs.Adding.{adding, adding_past, removing}
+use Rattle.memory.specs.PlaceSetLaws.{Adds, Removes, Wipes, NextUp, NextDown, Firsts}
+use Rattle.memory.proofs.Adding.{adding_any, removing}
 use Rattle.memory.proofs.Upward.{going_up, first_of_all}
 use Rattle.memory.proofs.Downward.{going_down}
 use Rattle.memory.proofs.Wiping.{wiping}
 
 pub adds : (m : List ℕ) (c : Column) (p : ℕ) (b : Bool) (m' : List ℕ) → b ≡ fresh m c p → m' ≡ added m c p → Adds m c p b m'
-unfolding Adds
-adds m c p b m' x y sm = rw (x, y) (⊎_elim below past (cases_lt p PLACES))
-  where
-    Added : Type 0
-    Added =
-        Summed (added m c p) c × (fresh m c p ≡ (ltb p PLACES && not (marked m c p)))
-        × ((q : ℕ) → marked (added m c p) c q ≡ ((eqb q p && ltb p PLACES) || marked m c q))
-
-    below : p < PLACES → Added
-    below h = let a = adding m c p sm h in (a.0, let e = a.1 in grind (arith, nat_tests), λ q. let e = a.2 q in grind (arith, nat_tests))
-
-    past : PLACES ≤ p → Added
-    past h = let a = adding_past m c p h in (rw a.1 sm, let e = a.0 in grind (arith, nat_tests), λ q. rw a.1 (grind (arith, nat_tests)))
+unfolding Adds fresh
+adds m c p b m' x y sm = let a = adding_any m c p sm in (rw y a.0, x, λ q. rw y (a.1 q))
 
 pub removes : (m : List ℕ) (c : Column) (p : ℕ) (b : Bool) (m' : List ℕ) → b ≡ marked m c p → m' ≡ removed m c p → Removes m c p b m'
 unfolding Removes

@@ -50,7 +50,7 @@ impl Column {
     }
 
     // Puts 0 at each of the first `n`.
-    #[tactic(auto, using(crate::proofs::Blanking::wipes))]
+    #[tactic(auto, using(crate::proofs::Fuel::one_less), unfolding(crate::specs::Columns::wiped))]
     pub fn blank(self, memory: &mut Memory, n: u64)
         ensures { memory.new ≡ wiped n memory.old self 0 }
     {

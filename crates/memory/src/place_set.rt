@@ -132,7 +132,7 @@ impl PlaceSet {
     }
 
     // The first word that the summary names in its words from `first` on.
-    #[tactic(auto, using(crate::proofs::Tops::ups))]
+    #[tactic(auto, using(crate::proofs::Fuel::one_less), unfolding(crate::specs::PlaceSets::tops_up))]
     fn tops_up(self, memory: &Memory, first: u64) -> Option<u64>
         ensures is { result ≡ tops_up (TOPS - first) memory.now self.column first }
         ensures below { Within WORDS result }
@@ -214,7 +214,7 @@ impl PlaceSet {
     }
 
     // The last word that the summary names in so many of its words.
-    #[tactic(auto, using(crate::proofs::Tops::downs))]
+    #[tactic(auto, unfolding(crate::specs::PlaceSets::tops_down))]
     fn tops_down(self, memory: &Memory, tops: u64) -> Option<u64>
         requires { tops ≤ TOPS }
         ensures is { result ≡ tops_down memory.now self.column tops }
@@ -285,7 +285,7 @@ impl PlaceSet {
     }
 
     // Empties the summary.
-    #[tactic(auto, using(crate::proofs::Clearing::tops, crate::proofs::Footprints::footprints))]
+    #[tactic(auto, using(crate::proofs::Fuel::one_less, crate::proofs::Footprints::footprints), unfolding(crate::specs::PlaceSets::untopped))]
     fn clear_summary(self, memory: &mut Memory)
         ensures is { memory.new ≡ untopped TOPS memory.old self.column 0 }
         ensures wrote { Writes (self.column ∷ []) memory.old memory.new }

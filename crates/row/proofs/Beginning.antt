@@ -1,17 +1,18 @@
 -- Zeros are a row, with no cards.
-use Rattle.std.proofs.Common.{◌≡◌, ℕ, zero, suc, ◌+◌, ◌/◌, ◌%◌, ◌≤◌, true, false, List, [], map, length, get_or, replicate, sym, refl, ap, ◌∙◌, arith}
+use Rattle.std.proofs.Common.{◌≡◌, ℕ, zero, suc, ◌+◌, ◌/◌, ◌≤◌, true, false, List, [], length, get_or, replicate, sym, refl, ap, ◌∙◌, arith}
 use lib.ListN.{length-replicate}
 use Rattle.std.proofs.lemmas.Bool.{both_ways}
 use Rattle.std.proofs.lemmas.Bool.Decides.{nat_tests}
-use Rattle.order.specs.Lists.{any, distinct}
+use Rattle.order.specs.Lists.{any, distinct, filter}
 use Rattle.memory.specs.declared.column.TheConstants.{MEMORY}
 use Rattle.memory.specs.declared.column.Column.{Column}
 use Rattle.memory.specs.Columns.{cell}
-use Rattle.row.specs.declared.layout.TheConstants.{COUNT, ENDING, FRESH, FREE, IDS, CHAIN, SLOTS, SEATS, TAKEN}
-use Rattle.row.specs.Meaning.{bit_set, listed, amount, in_use, ending, taken, cards, used, IsRow}
+use Rattle.row.specs.declared.layout.TheConstants.{COUNT, ENDING, FRESH, FREE, CHAIN, SEATS, TAKEN}
+use Rattle.row.specs.Meaning.{listed, amount, in_use, ending, taken, cards, used, IsRow}
 use Rattle.row.specs.Theory.{Begins}
-use Rattle.row.proofs.Listing.{listed_none, amount_none}
-use Rattle.row.proofs.Words.{digit_zero}
+use Rattle.row.proofs.Listing.{amount_none}
+use Rattle.row.proofs.Words.{taken_bit}
+use Rattle.memory.proofs.Naming.{bit_empty}
 
 none_in : (n i : ℕ) → get_or {A = ℕ} (replicate n 0) i 0 ≡ 0
 none_in zero i = refl
@@ -25,8 +26,7 @@ cell_zeros n c i = let e = none_in n (c.base + i) in grind (arith, nat_tests)
 -- a memory of zeros, long enough
 module _ (m : List ℕ) (long : TAKEN.base + TAKEN.size ≤ length m) (z : (c : Column) (i : ℕ) → cell m c i ≡ 0) where
   none_taken : (p : ℕ) → taken m p ≡ false
-  unfolding bit_set
-  none_taken p = digit_zero (cell m TAKEN (p / 64)) (p % 64) (z TAKEN (p / 64))
+  none_taken p = taken_bit m p ∙ bit_empty m TAKEN p (z TAKEN (p / 64))
 
   no : (p : ℕ) → taken m p ≡ true → ⊥
   no p y = both_ways (taken m p) (none_taken p) y
@@ -67,7 +67,8 @@ module _ (m : List ℕ) (long : TAKEN.base + TAKEN.size ≤ length m) (z : (c : 
   }
 
   pub zeros_cards : cards m ≡ []
-  zeros_cards = ap (map (cell m IDS)) (ap (listed (cell m SLOTS) (taken m)) end_zero ∙ listed_none (cell m SLOTS) (taken m))
+  unfolding listed filter
+  zeros_cards = rw end_zero
 
 begins_at : (n : ℕ) → TAKEN.base + TAKEN.size ≤ n → IsRow (replicate n 0) × (cards (replicate n 0) ≡ [])
 begins_at n h =

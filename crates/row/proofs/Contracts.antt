@@ -1,14 +1,13 @@
 -- The laws of the row, as the functions that they are about say them.
-use Rattle.std.proofs.Common.{◌≡◌, ℕ, ltb, List, Option, Result, sym, ap, ◌∙◌, subst}
+use Rattle.std.proofs.Common.{◌≡◌, ℕ, List, Option, Result, sym, refl, ◌∙◌}
 use Rattle.order.specs.declared.board.Refusal.{Refusal}
-use Rattle.order.specs.Outcomes.{Outcome}
 use Rattle.memory.specs.Columns.{cell}
 use Rattle.row.specs.declared.layout.TheConstants.{SLOTS, SEATS}
 use Rattle.row.specs.Lookup.{found}
-use Rattle.row.specs.Meaning.{count, rank, place_at, used}
+use Rattle.row.specs.Meaning.{count, rank, place_at}
 use Rattle.row.specs.Moves.{put_at, packed, came, gone, place_found}
 use Rattle.row.specs.Telling.{selected, told, told_count}
-use Rattle.row.specs.Laws.{Came, Comes, Gone, Goes, Counts, Finds, FindsPlace, Places, Orders, Sits, Putting, Packed, Packs, Ranks, Selects, Tells}
+use Rattle.row.specs.Laws.{Comes, Goes, Counts, Finds, FindsPlace, Places, Orders, Sits, Putting, Packs, Ranks, Selects, Tells}
 use Rattle.row.proofs.Rows.{seated, order_is, rank_below, slot_is}
 use Rattle.row.proofs.Named.{place_slot}
 use Rattle.row.proofs.Present.{length_cards, slot_used, finds_place, finds}
@@ -21,21 +20,12 @@ use Rattle.row.proofs.Tellings.{selects, tells_middle}
 -- a card that comes is last
 pub comes_so : (m : List ℕ) (k : ℕ) (r : Result ℕ Refusal) (m' : List ℕ) → r ≡ (came m k).answer → m' ≡ (came m k).memory → Comes m k r m'
 unfolding Comes
-comes_so m k r m' e f S =
-    let w = comes_appends m k S in (
-      λ h. let o = w.0 h in (e ∙ ap (λ (x : Outcome). x.answer) o, f ∙ ap (λ (x : Outcome). x.memory) o),
-      λ h l. let o = w.1 h l in (e ∙ ap (λ (x : Outcome). x.answer) o, f ∙ ap (λ (x : Outcome). x.memory) o),
-      λ h l. let o = w.2 h l in (o.0, e ∙ o.1, subst (λ (x : List ℕ). Came m k o.0 x) (sym f) o.2),
-    )
+comes_so m k r m' e f S = let w = comes_appends m k S in rw (e, f) (λ h. rw (w.0 h) (refl, refl), λ h l. rw (w.1 h l) (refl, refl), w.2)
 
 -- a card that goes leaves the others in their order
 pub goes_so : (m : List ℕ) (k : ℕ) (r : Result ℕ Refusal) (m' : List ℕ) → r ≡ (gone m k).answer → m' ≡ (gone m k).memory → Goes m k r m'
 unfolding Goes
-goes_so m k r m' e f S =
-    let w = goes_filters m k S in (
-      λ h. let o = w.0 h in (e ∙ ap (λ (x : Outcome). x.answer) o, f ∙ ap (λ (x : Outcome). x.memory) o),
-      λ h. let o = w.1 h in (o.0, e ∙ o.1, subst (λ (x : List ℕ). Gone m k o.0 x) (sym f) o.2),
-    )
+goes_so m k r m' e f S = let w = goes_filters m k S in rw (e, f) (λ h. rw (w.0 h) (refl, refl), w.1)
 
 pub counts_so : (m : List ℕ) (r : ℕ) → r ≡ count m → Counts m r
 unfolding Counts
@@ -44,11 +34,7 @@ counts_so m r e S = e ∙ sym (length_cards m S)
 -- cards are found, and stand in their places
 pub finds_so : (m : List ℕ) (k : ℕ) (r : Option ℕ) → r ≡ found m k → Finds m k r
 unfolding Finds
-finds_so m k r e S =
-    let w = finds m k S in (
-      λ h. e ∙ w.1 h,
-      λ h. let o = w.2 h in (o.0, e ∙ o.1, o.2, o.3),
-    )
+finds_so m k r e S = let w = finds m k S in rw e (w.1, w.2)
 
 pub finds_place_so : (m : List ℕ) (k : ℕ) (r : Option ℕ) → r ≡ place_found m k → FindsPlace m k r
 unfolding FindsPlace
@@ -60,11 +46,11 @@ places_so m s r e S u = e ∙ sym (place_slot m S s u)
 
 pub orders_so : (m : List ℕ) (s r : ℕ) → r ≡ cell m SEATS s → Orders m s r
 unfolding Orders
-orders_so m s r e S u t v = ap (λ (x : ℕ). ltb x (cell m SEATS t)) e ∙ order_is m (seated m S) s t u v
+orders_so m s r e S u t v = rw e (order_is m (seated m S) s t u v)
 
 pub sits_so : (m : List ℕ) (p r : ℕ) → r ≡ cell m SLOTS p → Sits m p r
 unfolding Sits
-sits_so m p r e S h = let w = slot_used m S p h in (ap (used m) e ∙ w.0, ap (cell m SEATS) e ∙ w.1)
+sits_so m p r e S h = rw e (slot_used m S p h)
 
 -- slots take other seats
 pub putting_so : (m : List ℕ) (p s : ℕ) (m' : List ℕ) → m' ≡ put_at m p s → Putting m p s m'
@@ -73,7 +59,7 @@ putting_so m p s m' e S h l = rw e (putting m p s S h l)
 
 pub packs_so : (m m' : List ℕ) → m' ≡ packed m → Packs m m'
 unfolding Packs
-packs_so m m' e S = subst (Packed m) (sym e) (packs m S)
+packs_so m m' e S = rw e (packs m S)
 
 -- from a seat to its place, and back
 pub ranks_so : (m : List ℕ) (p r : ℕ) → r ≡ rank m p → Ranks m p r
@@ -86,4 +72,4 @@ selects_so m n r e S l = rw e (selects m S n l)
 
 pub tells_so : (m : List ℕ) (p n : ℕ) (o : List ℕ) (r : ℕ) (x : List ℕ) → r ≡ told_count m p n o → x ≡ told m p n o → Tells m p n o r x
 unfolding Tells
-tells_so m p n o r x e f S h l = let w = tells_middle m p n o S h l in (e ∙ w.0, f ∙ w.1)
+tells_so m p n o r x e f S h l = rw (e, f) (tells_middle m p n o S h l)

@@ -1,11 +1,11 @@
 -- The first number from one on that passes a test.
 use Rattle.std.proofs.Common.{◌≡◌, ℕ, zero, suc, ◌+◌, ◌-◌, ◌<◌, ◌≤◌, min, Bool, true, false, List, sym, ap, ◌∙◌, inl, inr, arith}
-use Rattle.std.proofs.lemmas.Bool.{cases_Bool, cases_lt, cases_eq, both_ways}
+use Rattle.std.proofs.lemmas.Bool.{cases_Bool, cases_lt, cases_eq}
 use Rattle.row.specs.declared.layout.TheConstants.{SEATS_MOST}
 use Rattle.row.specs.Meaning.{taken}
 use Rattle.row.specs.Telling.{first_from, next_seat}
 use Rattle.row.specs.Laws.{Next}
-use Rattle.row.proofs.Counting.{none_past}
+use Rattle.row.proofs.Words.{taken_low}
 
 module _ (f : ℕ → Bool) where
   pub first_is : (n p q : ℕ) → p ≤ q → q < p + n → f q ≡ true → ((r : ℕ) → p ≤ r → r < q → f r ≡ false) → first_from f n p ≡ q
@@ -58,7 +58,7 @@ next_is m p q x = elim (cases_lt q SEATS_MOST) [
 -- a taken seat is the next one from itself on
 pub next_here : (m : List ℕ) (p : ℕ) → taken m p ≡ true → Next (taken m) p p
 next_here m p h = record {
-  room = elim (cases_lt p SEATS_MOST) [ inl l ↦ omega arith | inr l ↦ absurd (both_ways (taken m p) (none_past m p l) h) ];
+  room = let l = taken_low m p h in omega arith;
   here = λ _. h;
   first = λ r l u. absurd (omega arith);
   from = λ _. omega arith;

@@ -1,5 +1,5 @@
 -- A set bit of a word is looked for by halves.
-use Rattle.std.proofs.Common.{◌≡◌, ℕ, ◌+◌, ◌-◌, ◌*◌, ◌%◌, ◌^◌, ◌<◌, ◌≤◌, Bool, true, false, cond, ◌&&◌, eqb, List, refl, ap, ◌∙◌, add-one, inl, inr, arith}
+use Rattle.std.proofs.Common.{◌≡◌, ℕ, ◌+◌, ◌-◌, ◌*◌, ◌%◌, ◌^◌, ◌<◌, ◌≤◌, true, ◌&&◌, eqb, List, ap, ◌∙◌, add-one, inl, inr, arith}
 use Rattle.std.proofs.lemmas.Bool.{cases_Bool, eq-eqb, ne_eqb, and_from}
 use native.Mathlib.Nat.{mod-eq_of_lt}
 use lib.Bits.{bit_and}
@@ -35,19 +35,7 @@ one_left w n a b =
     let m = ones_more w a in
     let e = ap (λ (x : ℕ). ones (w % 2 ^ x)) (add-one a) in
     let l = b.0 in let u = b.1 in
-    let c = at_most (digit w a) in
-    (must (digit w a) (λ f. let d : cond (digit w a) 1 0 ≤ 0 = none (digit w a) f in omega arith), omega arith)
-  where
-    must : (c : Bool) → (c ≡ false → ⊥) → c ≡ true
-    must true h = refl
-    must false h = absurd (h refl)
-
-    at_most : (c : Bool) → cond c 1 0 ≤ 1
-    at_most true = omega arith
-    at_most false = omega arith
-
-    none : (c : Bool) → c ≡ false → cond c 1 0 ≤ 0
-    none c e = rw e (omega arith)
+    (grind arith, grind arith)
 
 module _ (m : List ℕ) where
   -- a taken seat is the one that has so many before it

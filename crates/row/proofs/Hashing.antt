@@ -1,5 +1,5 @@
 -- The cards by number, over any columns: a card comes into a slot, and goes out of one.
-use Rattle.std.proofs.Common.{◌≡◌, ℕ, suc, ◌+◌, ◌<◌, Bool, true, false, cond, not, ◌&&◌, ◌||◌, eqb, ◌∷◌, sym, ap, ◌∙◌, inl, inr, arith}
+use Rattle.std.proofs.Common.{◌≡◌, ℕ, suc, ◌+◌, ◌<◌, Bool, true, false, cond, not, ◌&&◌, ◌||◌, eqb, ◌∷◌, sym, refl, ap, ◌∙◌, inl, inr, arith}
 use Rattle.std.proofs.lemmas.Bool.{cases_eq, eq-eqb, ne_eqb, eqb-true, both_ways, and_from, and_parts}
 use Rattle.order.specs.Lists.{any, has, distinct}
 use Rattle.order.proofs.Filters.{has_filter, distinct_filter}
@@ -17,19 +17,6 @@ bucket_below k = omega arith
 abbrev pub OneSlot : (ℕ → ℕ) → (ℕ → Bool) → Type 0
 OneSlot id live = (s t : ℕ) → live s ≡ true → live t ≡ true → id s ≡ id t → s ≡ t
 
--- the same, of columns that hold the same
-pub chains_same : (next id next' id' : ℕ → ℕ) (live live' : ℕ → Bool) → ((q : ℕ) → next' q ≡ next q) → ((t : ℕ) → id' t ≡ id t) → ((t : ℕ) → live' t ≡ live t) →
-    Chains next id live → Chains next' id' live'
-chains_same next id next' id' live live' x i l c = record {
-  of = c.of;
-  spells = λ b h. spells_move next next' (c.of b) b b (c.spells b h) (x b) (λ t _. x (HEADS + t));
-  once = c.once;
-  holds = λ b t h. c.holds b t h ∙ sym (rw (l t, i t));
-}
-
-pub one_slot_same : (id id' : ℕ → ℕ) (live live' : ℕ → Bool) → ((t : ℕ) → id' t ≡ id t) → ((t : ℕ) → live' t ≡ live t) → OneSlot id live → OneSlot id' live'
-one_slot_same id id' live live' i l o s t p q e = o s t (sym (l s) ∙ p) (sym (l t) ∙ q) (sym (i s) ∙ e ∙ i t)
-
 -- the columns after the card k came into the slot s
 pub record Enters (s k : ℕ) (id next id' next' : ℕ → ℕ) : Type 0 where
   pub id_here : id' s ≡ k
@@ -38,7 +25,7 @@ pub record Enters (s k : ℕ) (id next id' next' : ℕ → ℕ) : Type 0 where
   pub next_here : next' (HEADS + s) ≡ next (bucket k)
   pub next_else : (q : ℕ) → (q ≡ bucket k → ⊥) → (q ≡ HEADS + s → ⊥) → next' q ≡ next q
 
-module _ (s k : ℕ) (id next id' next' : ℕ → ℕ) (live live' : ℕ → Bool) (C : Chains next id live) (A : Enters s k id next id' next')
+module _ {s k : ℕ} {id next id' next' : ℕ → ℕ} {live live' : ℕ → Bool} (C : Chains next id live) (A : Enters s k id next id' next')
     (free : live s ≡ false) (used_is : (t : ℕ) → live' t ≡ (eqb t s || live t)) where
   absent : (b : ℕ) → b < HEADS → has (C.of b) s ≡ false
   absent b l = C.holds b s l ∙ rw free
@@ -55,30 +42,23 @@ module _ (s k : ℕ) (id next id' next' : ℕ → ℕ) (live live' : ℕ → Boo
       | inr e ↦
           rw (ne_eqb b (bucket k) e)
           (spells_move next next' (C.of b) b b (C.spells b l) (A.next_else b e (λ z. omega arith))
-          (λ t h. A.next_else (HEADS + t) (λ z. let q = bucket_below k in omega arith) (λ z. both_ways (has (C.of b) s) (absent b l) (has_at (C.of b) t s (omega arith) h))))
+          (λ t h. A.next_else (HEADS + t) (λ z. let q = bucket_below k in omega arith)
+          (λ z. both_ways (has (C.of b) s) (absent b l) (has_at (C.of b) t s (omega arith) h))))
     ];
     once = λ b l. elim (cases_eq b (bucket k)) [
-      | inl e ↦ rw (eq-eqb b (bucket k) e) (and_from (not (has (C.of b) s)) (distinct (C.of b)) (let q = absent b l in grind arith) (C.once b l))
+      | inl e ↦ rw (eq-eqb b (bucket k) e) (rw (absent b l) (C.once b l))
       | inr e ↦ rw (ne_eqb b (bucket k) e) (C.once b l)
     ];
-    holds = λ b t l.
-        let h = C.holds b t l in
-        let u = used_is t in
-        elim (cases_eq t s) [
-          | inl e ↦
-              let i : id' t ≡ k = ap id' e ∙ A.id_here in
-              let a : has (C.of b) t ≡ false = rw e (absent b l) in
-              rw (u, eq-eqb t s e, i) (elim (cases_eq b (bucket k)) [
-                | inl j ↦ rw (eq-eqb b (bucket k) j, eq-eqb t s e, eq-eqb (bucket k) b (sym j))
-                | inr j ↦ rw (ne_eqb b (bucket k) j, a, ne_eqb (bucket k) b (λ z. j (sym z)))
-              ])
-          | inr e ↦
-              let i : id' t ≡ id t = A.id_else t e in
-              rw (u, ne_eqb t s e, i) (elim (cases_eq b (bucket k)) [
-                | inl j ↦ rw (eq-eqb b (bucket k) j, ne_eqb t s e) h
-                | inr j ↦ rw (ne_eqb b (bucket k) j) h
-              ])
-        ];
+    holds = λ b t l. rw (used_is t) (elim (cases_eq t s) [
+      | inl e ↦ rw (e, eq-eqb s s refl, A.id_here) (elim (cases_eq b (bucket k)) [
+        | inl j ↦ rw (j, eq-eqb (bucket k) (bucket k) refl, eq-eqb s s refl)
+        | inr j ↦ rw (ne_eqb b (bucket k) j, absent b l, ne_eqb (bucket k) b (λ z. j (sym z)))
+      ])
+      | inr e ↦ rw (ne_eqb t s e, A.id_else t e) (elim (cases_eq b (bucket k)) [
+        | inl j ↦ rw (eq-eqb b (bucket k) j, ne_eqb t s e) (C.holds b t l)
+        | inr j ↦ rw (ne_eqb b (bucket k) j) (C.holds b t l)
+      ])
+    ]);
   }
 
   used_else : (t : ℕ) → (t ≡ s → ⊥) → live' t ≡ live t
@@ -96,9 +76,8 @@ module _ (s k : ℕ) (id next id' next' : ℕ → ℕ) (live live' : ℕ → Boo
     ]
   ]
 
--- the columns after the card in the slot s went; h is the pointer that held it
-module _ (s : ℕ) (id next id' next' : ℕ → ℕ) (live live' : ℕ → Bool) (C : Chains next id live) (used : live s ≡ true)
-    (id_same : (t : ℕ) → id' t ≡ id t)
+-- the pointers after the card in the slot s went; one pointer held it
+module _ {s : ℕ} {id next next' : ℕ → ℕ} {live live' : ℕ → Bool} (C : Chains next id live) (used : live s ≡ true)
     (next_here : next' (holder (bucket (id s)) (C.of (bucket (id s))) s) ≡ next (HEADS + s))
     (next_else : (p : ℕ) → (p ≡ holder (bucket (id s)) (C.of (bucket (id s))) s → ⊥) → next' p ≡ next p)
     (used_is : (t : ℕ) → live' t ≡ (live t && not (eqb t s))) where
@@ -111,7 +90,7 @@ module _ (s : ℕ) (id next id' next' : ℕ → ℕ) (live live' : ℕ → Bool)
   own : (b t : ℕ) → b < HEADS → has (C.of b) t ≡ true → bucket (id t) ≡ b
   own b t l h = eqb-true (bucket (id t)) b (and_parts _ _ (sym (C.holds b t l) ∙ h)).1
 
-  pub withdrawn_chains : Chains next' id' live'
+  pub withdrawn_chains : Chains next' id live'
   withdrawn_chains = record {
     of = λ b. cond (eqb b B) (without s (C.of b)) (C.of b);
     spells = λ b l. elim (cases_eq b B) [
@@ -128,24 +107,14 @@ module _ (s : ℕ) (id next id' next' : ℕ → ℕ) (live live' : ℕ → Bool)
       | inl e ↦ rw (eq-eqb b B e) (distinct_filter _ (C.of b) (C.once b l))
       | inr e ↦ rw (ne_eqb b B e) (C.once b l)
     ];
-    holds = λ b t l.
-        let h = C.holds b t l in
-        let i = id_same t in
-        let u = used_is t in
-        elim (cases_eq t s) [
-          | inl e ↦
-              rw (u, eq-eqb t s e, i) (elim (cases_eq b B) [
-                | inl j ↦ rw (eq-eqb b B j) (let w = has_filter (λ x. not (eqb x s)) (C.of b) t in let y = eq-eqb t s e in grind arith)
-                | inr j ↦ rw (ne_eqb b B j) (h ∙ let y = ne_eqb (bucket (id t)) b (λ x. j (sym x ∙ ap (λ (v : ℕ). bucket (id v)) e)) in grind arith)
-              ])
-          | inr e ↦
-              rw (u, ne_eqb t s e, i) (elim (cases_eq b B) [
-                | inl j ↦ rw (eq-eqb b B j) (let w = has_filter (λ x. not (eqb x s)) (C.of b) t in let y = ne_eqb t s e in grind arith)
-                | inr j ↦ rw (ne_eqb b B j) (h ∙ let z = live t in grind arith)
-              ])
-        ];
+    holds = λ b t l. elim (cases_eq b B) [
+      | inl j ↦ rw (eq-eqb b B j, has_filter (λ x. not (eqb x s)) (C.of b) t, C.holds b t l, used_is t) (let z = live t in let y = eqb t s in grind arith)
+      | inr j ↦ rw (ne_eqb b B j, C.holds b t l, used_is t) (elim (cases_eq t s) [
+        | inl e ↦ rw (ne_eqb (bucket (id t)) b (λ x. j (sym x ∙ ap (λ (v : ℕ). bucket (id v)) e))) (let z = live t in grind arith)
+        | inr e ↦ rw (ne_eqb t s e) (let z = live t in grind arith)
+      ])
+    ];
   }
 
-  pub withdrawn_one : OneSlot id live → OneSlot id' live'
-  withdrawn_one o t u p q e =
-      o t u (let v = used_is t in grind arith) (let v = used_is u in grind arith) (sym (id_same t) ∙ e ∙ id_same u)
+  pub withdrawn_one : OneSlot id live → OneSlot id live'
+  withdrawn_one o t u p q e = o t u (let v = used_is t in grind arith) (let v = used_is u in grind arith) e

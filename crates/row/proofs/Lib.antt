@@ -1,8 +1,8 @@
 pub mod Listing
+pub mod Words
 pub mod Along
 pub mod Counting
 pub mod Turning
-pub mod Words
 pub mod Firsts
 pub mod Halving
 pub mod Steps
@@ -12,7 +12,6 @@ pub mod Freeing
 pub mod Hashing
 pub mod Seeking
 pub mod Framing
-pub mod Sitting
 pub mod Rows
 pub mod Packs
 pub mod Named

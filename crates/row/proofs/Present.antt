@@ -1,11 +1,9 @@
 -- The cards in the row: they stand in slots in use, a card is found if and only if it's there, and at its place.
-use Rattle.std.proofs.Common.{◌≡◌, ℕ, zero, suc, ◌<◌, ◌≤◌, Bool, true, false, cond, eqb, List, [], ◌∷◌, ◌++◌, map, length, get_or, Some, None, sym, refl, ap, ◌∙◌, inl, inr, arith}
+use Rattle.std.proofs.Common.{◌≡◌, ℕ, zero, suc, ◌+◌, ◌<◌, ◌≤◌, Bool, true, false, cond, eqb, List, [], ◌∷◌, map, length, get_or, Some, None, sym, refl, ap, ◌∙◌, inl, inr, arith}
 use lib.ListN.{length-map}
-use Rattle.std.proofs.lemmas.Bool.{cases_Bool, cond_both, eq-eqb, eqb-true, and_parts, and_from, or_left, or_right, both_ways}
-use Rattle.std.proofs.lemmas.List.{append-nil}
+use Rattle.std.proofs.lemmas.Bool.{cases_Bool, eq-eqb, eqb-true, and_parts, and_from, or_left, or_right, both_ways}
 use Rattle.order.specs.declared.board.TheConstants.{CARDS}
-use Rattle.order.specs.Lists.{any, has, place, distinct}
-use Rattle.order.proofs.Filters.{distinct_push}
+use Rattle.order.specs.Lists.{any, filter, has, place, distinct}
 use Rattle.order.proofs.Members.{few_below}
 use Rattle.order.proofs.RenamesLists.{has_map, place_map, distinct_map}
 use Rattle.memory.specs.Columns.{cell}
@@ -16,11 +14,11 @@ use Rattle.row.specs.Moves.{place_found}
 use Rattle.row.proofs.Chaining.{holder}
 use Rattle.row.proofs.Seeking.{sought_none, sought_some}
 use Rattle.row.proofs.Hashing.{bucket_below}
-use Rattle.row.proofs.Listing.{listed_none, listed_more}
-use Rattle.row.proofs.Along.{has_not}
+use Rattle.row.proofs.Listing.{rest}
+use Rattle.row.proofs.Along.{rest_not}
 use Rattle.row.proofs.Seatings.{one_seat}
-use Rattle.row.proofs.Rows.{seated, at_seat}
-use Rattle.row.proofs.Named.{standing, one_slot, used_below, used_seat, row_used, has_used, has_slot, place_slot, length_slots, ranks}
+use Rattle.row.proofs.Rows.{seated, at_seat, rank_below, slot_is}
+use Rattle.row.proofs.Named.{ranked, standing, one_slot, used_below, used_seat, row_used, has_used, has_slot, place_slot, length_slots}
 
 -- what another name is of, in a list
 named_in : (f : ℕ → ℕ) (xs : List ℕ) (k : ℕ) → has (map f xs) k ≡ true → (s : ℕ) × (has xs s ≡ true) × (f s ≡ k)
@@ -38,9 +36,8 @@ module _ (m : List ℕ) (S : IsRow m) where
   pub used_place : (t : ℕ) → used m t ≡ true → (place_at m t < count m) × (get_or (row_of m) (place_at m t) 0 ≡ t)
   used_place t u =
       let w = used_seat m S t u in
-      let r = ranks m S (cell m SEATS t) w.0 in
-      let l = length_slots m S in
-      (let a = r.0 in omega arith, r.1 ∙ w.1)
+      let a = rank_below m (seated m S) (cell m SEATS t) w.0 in let l = length_slots m S in let r = ranked m S t u in
+      (omega arith, ap (λ (x : ℕ). get_or (row_of m) x 0) r ∙ slot_is m (seated m S) (cell m SEATS t) w.0 ∙ w.1)
 
   -- their cards
   pub length_cards : length (cards m) ≡ count m
@@ -94,21 +91,20 @@ module _ (m : List ℕ) (S : IsRow m) where
   found_absent k n = rw (sought_absent k n)
 
 -- no slot stands twice: two seats have two slots
-distinct_listed : (r : ℕ → ℕ) (f : ℕ → Bool) (n : ℕ) → ((p q : ℕ) → f p ≡ true → f q ≡ true → r p ≡ r q → p ≡ q) → distinct (listed r f n) ≡ true
-unfolding distinct
-distinct_listed r f zero h = ap distinct (listed_none r f)
-distinct_listed r f (suc n) h =
-    ap distinct (listed_more r f n)
-    ∙ cond_both (f n) (r n ∷ []) [] (λ (ys : List ℕ). distinct (listed r f n ++ ys) ≡ true)
-    (λ y. distinct_push (listed r f n) (r n) (distinct_listed r f n h) (has_not r f (r n) n (λ p l u e. let i = h p n u y e in omega arith)))
-    (λ _. ap distinct (append-nil (listed r f n)) ∙ distinct_listed r f n h)
-
-pub apart_slots : (m : List ℕ) → IsRow m → distinct (row_of m) ≡ true
-apart_slots m S = distinct_listed (cell m SLOTS) (taken m) (ending m) (one_seat S.stands.seated)
+distinct_rest : (r : ℕ → ℕ) (f : ℕ → Bool) → ((p q : ℕ) → f p ≡ true → f q ≡ true → r p ≡ r q → p ≡ q) → (a n : ℕ) → distinct (rest r f a n) ≡ true
+unfolding distinct filter
+distinct_rest r f h a zero = refl
+distinct_rest r f h a (suc n) = elim (cases_Bool (f a)) [
+  | inl y ↦ rw (y, rest_not r f (r a) (a + 1) n (λ p l u z e. let i = h p a z y e in omega arith)) (distinct_rest r f h (a + 1) n)
+  | inr y ↦ rw y (distinct_rest r f h (a + 1) n)
+]
 
 -- no card stands twice
 pub apart : (m : List ℕ) → IsRow m → distinct (cards m) ≡ true
-apart m S = distinct_map (cell m IDS) (used m) (one_slot m S) (row_of m) (row_used m S) ∙ apart_slots m S
+unfolding listed
+apart m S =
+    distinct_map (cell m IDS) (used m) (one_slot m S) (row_of m) (row_used m S)
+    ∙ distinct_rest (cell m SLOTS) (taken m) (one_seat S.stands.seated) 0 (ending m)
 
 -- a card is found just if it's there, and at its place
 pub finds_place : (m : List ℕ) (k : ℕ) → IsRow m → place_found m k ≡ cond (has (cards m) k) (Some (place (cards m) k)) None

@@ -1,7 +1,7 @@
 -- Seats that are looked for, and cards that are told, one after the other.
-use Rattle.std.proofs.Common.{◌≡◌, ℕ, zero, suc, ◌+◌, ◌<◌, ◌≤◌, min, Bool, true, false, cond, List, [], ◌∷◌, ◌++◌, map, length, get_or, take, drop, set, sym, refl, ap, ◌∙◌, ⊎_elim, add-one, length-drop, arith}
-use Rattle.std.proofs.lemmas.List.{length-take-le, get_or-take, get_or-drop}
-use Rattle.std.proofs.lemmas.Bool.{cases_lt, cases_Bool, cond-true, and_from, le-leb}
+use Rattle.std.proofs.Common.{◌≡◌, ℕ, zero, suc, ◌+◌, ◌<◌, ◌≤◌, min, true, List, ◌++◌, map, length, get_or, take, drop, set, sym, refl, ap, ◌∙◌, inl, inr, add-one, length-drop, arith}
+use Rattle.std.proofs.lemmas.List.{length-take-le, get_or-take, get_or-drop, take-map, drop-map}
+use Rattle.std.proofs.lemmas.Bool.{cases_lt, cond-true, and_from, le-leb}
 use Rattle.order.specs.declared.board.TheConstants.{CARDS}
 use Rattle.order.proofs.Fronts.{front_more, front_all}
 use Rattle.memory.specs.Columns.{cell}
@@ -11,58 +11,33 @@ use Rattle.row.specs.Telling.{next_seat, selected, tellable, tells, told, told_c
 use Rattle.row.specs.Laws.{Next}
 use Rattle.row.proofs.Listing.{amount_more}
 use Rattle.row.proofs.Along.{amount_gap, amount_at}
-use Rattle.row.proofs.Counting.{none_past}
+use Rattle.row.proofs.Counting.{rank_beyond}
 use Rattle.row.proofs.Firsts.{next_holds}
 use Rattle.row.proofs.Halving.{selected_is, selected_none}
+use Rattle.row.proofs.Seatings.{free_from}
 use Rattle.row.proofs.Rows.{seated, slot_is}
 use Rattle.row.proofs.Named.{standing, length_slots}
 use Rattle.row.proofs.Present.{length_cards, few_cards}
 
--- all that is taken stands below the last seat
-rank_beyond : (m : List ℕ) (p : ℕ) → SEATS_MOST ≤ p → rank m p ≡ rank m SEATS_MOST
-rank_beyond m p l = amount_gap (taken m) SEATS_MOST p l (λ r u _. none_past m r u)
-
 -- past the next taken seat one more is, if there is one
-rank_next : (m : List ℕ) (p q : ℕ) → Next (taken m) p q → rank m p < rank m SEATS_MOST → (q < SEATS_MOST) × (rank m q ≡ rank m p) × (rank m (q + 1) ≡ rank m p + 1)
-rank_next m p q x l =
-    let s = some in
-    let h = x.here s in
-    let g = amount_gap (taken m) p q (x.from s) x.first in
-    let n = amount_more (taken m) q ∙ ap (λ (b : Bool). rank m q + cond b 1 0) h in
-    (s, g, ap (rank m) (add-one q) ∙ n ∙ omega arith)
-  where
-    some : q < SEATS_MOST
-    some =
-        ⊎_elim (λ (u : q < SEATS_MOST). u)
-        (λ (u : SEATS_MOST ≤ q).
-        let z : rank m p ≡ rank m SEATS_MOST =
-        ⊎_elim (λ (v : p < SEATS_MOST). sym (amount_gap (taken m) p SEATS_MOST (omega arith) (λ r i j. x.first r i (omega arith)))) (λ (v : SEATS_MOST ≤ p). rank_beyond m p v) (cases_lt p SEATS_MOST) in
-        absurd (omega arith))
-        (cases_lt q SEATS_MOST)
-
-take_drop_map : (f : ℕ → ℕ) (n p : ℕ) (xs : List ℕ) → map f (take n (drop p xs)) ≡ take n (drop p (map f xs))
-take_drop_map f n zero xs = go n xs
-  where
-    go : (n : ℕ) (xs : List ℕ) → map f (take n xs) ≡ take n (map f xs)
-    go zero xs = refl
-    go (suc n) [] = refl
-    go (suc n) (x ∷ xs) = ap (λ (ys : List ℕ). f x ∷ ys) (go n xs)
-take_drop_map f n (suc p) [] = none n
-  where
-    none : (n : ℕ) → map f (take n []) ≡ take n []
-    none zero = refl
-    none (suc n) = refl
-take_drop_map f n (suc p) (x ∷ xs) = take_drop_map f n p xs
+rank_next : (m : List ℕ) (p q : ℕ) → Next (taken m) p q → rank m p < rank m SEATS_MOST →
+    (q < SEATS_MOST) × (rank m q ≡ rank m p) × (rank m (q + 1) ≡ rank m p + 1)
+rank_next m p q x l = elim (cases_lt q SEATS_MOST) [
+  | inl s ↦
+      let g = amount_gap (taken m) p q (x.from s) x.first in
+      let n = amount_more (taken m) q in
+      (s, g, ap (rank m) (add-one q) ∙ rw (n, x.here s, g) refl)
+  | inr u ↦ elim (cases_lt p SEATS_MOST) [
+    | inl v ↦ let z = amount_gap (taken m) p SEATS_MOST (omega arith) (λ r i j. x.first r i (omega arith)) in absurd (omega arith)
+    | inr v ↦ let z = rank_beyond m p v in absurd (omega arith)
+  ]
+]
 
 module _ (m : List ℕ) (S : IsRow m) where
   rank_all : rank m SEATS_MOST ≡ count m
   rank_all =
-      let c = (standing m S).seated.counts in
-      let g = amount_gap (taken m) (ending m) SEATS_MOST (omega arith) (λ r l _. free r l) in
-      omega arith
-    where
-      free : (r : ℕ) → ending m ≤ r → taken m r ≡ false
-      free r l = ⊎_elim (λ (y : taken m r ≡ true). let u = (standing m S).seated.below r y in absurd (omega arith)) (λ (y : taken m r ≡ false). y) (cases_Bool (taken m r))
+      let st = (standing m S).seated in
+      amount_gap (taken m) (ending m) SEATS_MOST (omega arith) (λ r l _. free_from st r l) ∙ sym st.counts
 
   -- the seat of a place
   pub selects : (n : ℕ) → n < length (row_of m) →
@@ -71,14 +46,12 @@ module _ (m : List ℕ) (S : IsRow m) where
       let a = rank_all in let b = length_slots m S in
       let w = amount_at (taken m) SEATS_MOST n (omega arith) in
       let e = selected_is m n w.0 w.1 w.2 w.3 in
-      let t : taken m (selected m n) ≡ true = ap (taken m) e ∙ w.2 in
-      let r : rank m (selected m n) ≡ n = ap (rank m) e ∙ w.3 in
-      (t, r, ap (λ (i : ℕ). get_or (row_of m) i 0) (sym r) ∙ slot_is m (seated m S) (selected m n) t)
+      rw e (w.2, w.3, ap (λ (i : ℕ). get_or (row_of m) i 0) (sym w.3) ∙ slot_is m (seated m S) w.0 w.2)
 
   selected_rank : (p : ℕ) → p ≤ count m → rank m (selected m p) ≡ p
   selected_rank p h =
       let a = rank_all in let b = length_slots m S in
-      ⊎_elim (λ (l : p < count m). (selects p (omega arith)).1) (λ (l : count m ≤ p). ap (rank m) (selected_none m p (omega arith)) ∙ omega arith) (cases_lt p (count m))
+      elim (cases_lt p (count m)) [ inl l ↦ (selects p (omega arith)).1 | inr l ↦ ap (rank m) (selected_none m p (omega arith)) ∙ omega arith ]
 
   -- cards are told
   module _ (p n : ℕ) (o : List ℕ) (h : p + n ≤ count m) (k : n ≤ length o) where
@@ -100,14 +73,14 @@ module _ (m : List ℕ) (S : IsRow m) where
         let y : taken m q ≡ true = (next_holds m s).here w.0 in
         let j : rank m q ≡ p + i = w.1 ∙ r in
         let g : get_or part i 0 ≡ cell m SLOTS q =
-        get_or-take n (drop p (row_of m)) i 0 (omega arith) ∙ get_or-drop p (row_of m) i 0 ∙ ap (λ (z : ℕ). get_or (row_of m) z 0) (sym j) ∙ slot_is m (seated m S) q y in
+        get_or-take n (drop p (row_of m)) i 0 (omega arith) ∙ get_or-drop p (row_of m) i 0 ∙ rw (← j) (slot_is m (seated m S) q y) in
         tells_rest f (i + 1) (q + 1) (set x i (cell m IDS (cell m SLOTS q))) (omega arith) (let z = w.2 in omega arith)
         (ap (λ (z : ℕ). set x i (cell m IDS z)) (sym g) ∙ front_more (cell m IDS) part o x i (omega arith) (omega arith) t)
 
     tells_all : tells n m (selected m p) 0 o ≡ take n (drop p (cards m)) ++ drop n o
     tells_all =
         tells_rest n 0 (selected m p) o (omega arith) (selected_rank p (omega arith) ∙ omega arith) refl
-        ∙ ap (λ (z : ℕ). map (cell m IDS) part ++ drop z o) length_part ∙ ap (λ (zs : List ℕ). zs ++ drop n o) (take_drop_map (cell m IDS) n p (row_of m))
+        ∙ rw (length_part, drop-map (cell m IDS) p (row_of m), take-map (cell m IDS) n (drop p (row_of m)))
 
     can : tellable m p n o ≡ true
     can = let f = few_cards m S in and_from _ _ (le-leb (p + n) (min (count m) CARDS) (omega arith)) (le-leb n (length o) k)

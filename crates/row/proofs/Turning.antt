@@ -1,14 +1,13 @@
 -- What marking a seat changes, and what it leaves.
-use Rattle.std.proofs.Common.{◌≡◌, ℕ, ◌+◌, ◌-◌, ◌/◌, ◌%◌, ◌^◌, ◌<◌, ◌≤◌, Bool, true, not, ◌&&◌, ◌||◌, eqb, List, length, refl, ap, ◌∙◌, ⊎_elim, w64, arith}
+use Rattle.std.proofs.Common.{◌≡◌, ℕ, ◌+◌, ◌-◌, ◌/◌, ◌%◌, ◌^◌, ◌<◌, ◌≤◌, Bool, not, ◌&&◌, ◌||◌, eqb, List, length, refl, ap, ◌∙◌, ⊎_elim, w64, arith}
 use lib.Bits.{bit_and, bit_or}
 use Rattle.std.specs.Int.{bit_at}
 use Rattle.std.proofs.lemmas.Nat.{pow_below}
 use Rattle.std.proofs.lemmas.Nat.Bits.{bit_at_or, bit_at_and, bit_at_not, bit_at-pow_same, bit_at-pow_other, bit_at-lt}
 use Rattle.std.proofs.lemmas.Bool.{cases_eq}
 use Rattle.std.proofs.lemmas.Bool.Decides.{nat_tests}
-use Rattle.memory.specs.declared.column.Column.{Column}
-use Rattle.memory.specs.Columns.{cell, written, apart}
-use Rattle.memory.proofs.Cells.{length_written, cell_same, cell_other, cell_apart}
+use Rattle.memory.specs.Columns.{cell, written}
+use Rattle.memory.proofs.Cells.{cell_same, cell_other, cell_apart}
 use Rattle.row.specs.declared.layout.TheConstants.{SEATS_MOST, SLOTS, TAKEN}
 use Rattle.row.specs.Meaning.{digit, bit_set, taken}
 use Rattle.row.specs.Moves.{marked, unmarked}
@@ -30,29 +29,9 @@ digit_and_not w k t h l =
     ⊎_elim (λ (e : t ≡ k). let s = bit_at-pow_same k in let r : bit_at (2 ^ k) t ≡ 1 = ap (bit_at (2 ^ k)) e ∙ s in grind (arith, nat_tests))
     (λ ne. let s = bit_at-pow_other k t ne in grind (arith, nat_tests)) (cases_eq t k)
 
-pub length_marked : (m : List ℕ) (p : ℕ) → length (marked m p) ≡ length m
-unfolding marked
-length_marked m p = length_written m TAKEN (p / 64) _
-
-pub length_unmarked : (m : List ℕ) (p : ℕ) → length (unmarked m p) ≡ length m
-unfolding unmarked
-length_unmarked m p = length_written m TAKEN (p / 64) _
-
-pub beside_marked : (m : List ℕ) (p : ℕ) (c : Column) (i : ℕ) → apart TAKEN c ≡ true → cell (marked m p) c i ≡ cell m c i
-unfolding marked
-beside_marked m p c i a = cell_apart m TAKEN c (p / 64) i _ a
-
-pub beside_unmarked : (m : List ℕ) (p : ℕ) (c : Column) (i : ℕ) → apart TAKEN c ≡ true → cell (unmarked m p) c i ≡ cell m c i
-unfolding unmarked
-beside_unmarked m p c i a = cell_apart m TAKEN c (p / 64) i _ a
-
 pub slot_unmarked : (m : List ℕ) (p i : ℕ) → cell (unmarked m p) SLOTS i ≡ cell m SLOTS i
-slot_unmarked m p i = beside_unmarked m p SLOTS i refl
-
--- what is taken goes by the words
-pub taken_same : (m n : List ℕ) → ((i : ℕ) → cell n TAKEN i ≡ cell m TAKEN i) → (p : ℕ) → taken n p ≡ taken m p
-unfolding bit_set
-taken_same m n h p = ap (λ (w : ℕ). digit w (p % 64)) (h (p / 64))
+unfolding unmarked
+slot_unmarked m p i = cell_apart m TAKEN SLOTS (p / 64) i _ refl
 
 module _ (m : List ℕ) (p : ℕ) (h : p < SEATS_MOST) (long : TAKEN.base + TAKEN.size ≤ length m) where
   inside : p / 64 < TAKEN.size

@@ -15,8 +15,10 @@
 --   row_of m         the slots in the row, from the left: those at the taken seats, in the order of the seats
 --   cards m          the cards in the row, from the left
 --   used m s         the slot s is a card's: its seat is taken, and by it
+--   taken_from m p   how many seats from p on are taken, up to the end of the word in which the row ends
+--   placed m p       how many cards stand before the one on the seat p, counted from the nearer end of the row
 --   place_at m s     how many cards stand before the card in the slot s
-use Rattle.std.specs.Prelude.{◌≡◌, ℕ, suc, ◌+◌, ◌/◌, ◌%◌, ◌^◌, ◌<◌, ◌≤◌, min, Bool, true, false, ◌&&◌, List, [], ◌∷◌, map, length, ◌==◌, nat_lt}
+use Rattle.std.specs.Prelude.{◌≡◌, ℕ, suc, ◌+◌, ◌/◌, ◌%◌, ◌^◌, ◌-◌, ◌*◌, ◌<◌, ◌≤◌, min, cond, Bool, true, false, ◌&&◌, List, [], ◌∷◌, map, length, ◌==◌, nat_lt}
 use Rattle.std.specs.List.{range_with_len}
 use Rattle.order.specs.declared.board.TheConstants.{CARDS}
 use Rattle.order.specs.Lists.{filter, has, distinct}
@@ -68,8 +70,14 @@ cards m = map (cell m IDS) (row_of m)
 abbrev pub used : List ℕ → ℕ → Bool
 used m = in_use (cell m SLOTS) (cell m SEATS) (taken m)
 
+unfoldable pub taken_from : List ℕ → ℕ → ℕ
+taken_from m p = rank m ((ending m + 63) / 64 * 64) - rank m p
+
+unfoldable pub placed : List ℕ → ℕ → ℕ
+placed m p = cond (nat_lt p (ending m / 2)) (rank m p) (count m - taken_from m p)
+
 abbrev pub place_at : List ℕ → ℕ → ℕ
-place_at m s = rank m (cell m SEATS s)
+place_at m s = placed m (cell m SEATS s)
 
 -- When it is sound. Over functions: n cards, the seat e behind all, f slots ever in use, top the free slot on top; id, next, slot, seat, held are columns,
 -- and live says which slots are cards'.

@@ -10,7 +10,7 @@ ghost use Rattle.row.specs.Laws.{Counts, Places, FindsPlace, Comes, Goes};
 use crate::layout::COUNT;
 use crate::lookup::{enter, find, seek, withdraw};
 use crate::marking::unmark;
-use crate::ranks::rank;
+use crate::ranks::place_of_seat;
 use crate::seating::{join, make_room, seat_of, tidy};
 use crate::slots::{free_slot, next_slot, take_slot};
 use memory::Memory;
@@ -32,7 +32,7 @@ pub fn place_at(memory: &Memory, slot: u64) -> u64
     ensures is { result ≡ place_at memory.now slot }
     ensures law { Places memory.now slot result }
 {
-    rank(memory, seat_of(memory, slot))
+    place_of_seat(memory, seat_of(memory, slot))
 }
 
 // How many cards stand before this one, if it's there.

@@ -18,6 +18,7 @@ pub fn begins_stands()
 {}
 
 // No card stands twice.
+#[tactic(auto, using(crate::proofs::Present::apart))]
 pub fn apart_stands()
     ensures { Apart }
 {}
@@ -28,6 +29,7 @@ pub fn slots_named_stands()
 {}
 
 // What the row means depends on the columns of this crate alone.
+#[tactic(auto, using(crate::proofs::Depending::depends))]
 pub fn depends_stands()
     ensures { Depends }
 {}

@@ -1,20 +1,7 @@
 -- One of the two searches goes on from one card.
 use Rattle.std.proofs.Common.{◌≡◌, ℕ, ◌+◌, ◌<◌, ◌≤◌, true, ◌⊎◌, List, suc, length, Some, None, Option, Continue, Break, ControlFlow, sym, refl, ap, ◌∙◌, inl, inr, arith}
-use Rattle.order.specs.declared.board.TheConstants.{CARDS}
-use Rattle.order.specs.declared.board.Link.{Link}
-use Rattle.order.specs.Board.{◌⟶◌}
-use Rattle.memory.specs.declared.place_set.TheConstants.{PLACES}
-use Rattle.memory.specs.Columns.{cell}
-use Rattle.memory.specs.PlaceSets.{marked}
-use Rattle.row.specs.declared.layout.TheConstants.{SLOTS, SEATS}
-use Rattle.row.specs.Meaning.{used}
-use Rattle.chains.specs.declared.cells.Pointer.{Pointer}
-use Rattle.links.specs.Table.{edges}
-use Rattle.search.specs.declared.side.Side.{Side}
-use Rattle.search.specs.declared.hunt.Front.{Front}
-use Rattle.search.specs.Sides.{marks_of, other, ahead}
-use Rattle.search.specs.Hunt.{Spreading, spreading, Going, advanced, moved, gone_on, part_of}
-use Rattle.search.specs.Meaning.{Trailed}
+use Rattle.search.proofs.Common.{CARDS, Link, ◌⟶◌, PLACES, cell, marked, SLOTS, SEATS, used, Pointer, edges, Side, Front, marks_of, other, ahead}
+use Rattle.search.proofs.Common.{Spreading, spreading, Going, advanced, moved, gone_on, part_of, Trailed}
 use Rattle.search.proofs.Potential.{weight, weight_passed, cost}
 use Rattle.search.proofs.Between.{Setting, used_tells, taken_tells}
 use Rattle.search.proofs.Reaching.{near_end, Along, along}
@@ -61,85 +48,64 @@ module _ (m : List ℕ) (a b : ℕ) (S : Setting m a b) where
     abbrev x : ℕ
     x = cell m SLOTS p
 
-    mp : marked n (marks_of d) p ≡ true
-    mp = h.there p refl
-
     seated : (used m x ≡ true) × (cell m SEATS x ≡ p) × (p < PLACES)
-    seated = taken_tells m a b S p (s.within d p mp).0
-
-    x_below : x < CARDS
-    x_below = (used_tells m a b S x seated.0).0
+    seated = taken_tells m a b S p (s.within d p (h.there p refl)).0
 
     chain : (xs : List Pointer) × Along m d x xs
-    chain = along m S.ready.is_table d x x_below
-
-    abbrev xs : List Pointer
-    xs = chain.0
+    chain = along m S.ready.is_table d x (used_tells m a b S x seated.0).0
 
     -- passing p pays for its slot
-    pays : (o : Option ℕ) → ((q : ℕ) → passed d (Some p) q ≡ true → passed d o q ≡ true) → passed d o p ≡ true → owed m d o + suc (length xs) ≤ f
+    pays : (o : Option ℕ) → ((q : ℕ) → passed d (Some p) q ≡ true → passed d o q ≡ true) → passed d o p ≡ true → owed m d o + suc (length chain.0) ≤ f
     pays o more here =
         let l = weight_passed (cost (near_end d) (edges m)) (λ k. passed d (Some p) (cell m SEATS k)) (λ k. passed d o (cell m SEATS k)) CARDS x
-        (λ k _. more (cell m SEATS k)) x_below (rw seated.1 (not_passed d p)) (rw seated.1 here) in
+        (λ k _. more (cell m SEATS k)) (used_tells m a b S x seated.0).0 (rw seated.1 (not_passed d p)) (rw seated.1 here) in
         omega (arith, l, h.enough, chain.1.long)
 
     abbrev y : Spreading
     y = spreading f n d (part_of m (a ⟶ b)) x x
 
-    abbrev n' : List ℕ
-    n' = y.memory
-
-    spread : Spreaded m a b S d x seated.0 n f xs y
-    spread = spreads m a b S d x seated.0 xs f n x s (rw seated.1 mp) chain.1.led (λ t z. sym (chain.1.goals t) ∙ z) (omega (arith, pays None (λ q _. refl) refl))
+    spread : Spreaded m a b S d x seated.0 n f chain.0 y
+    spread =
+        spreads m a b S d x seated.0 chain.0 f n x s (rw seated.1 (h.there p refl)) chain.1.led (λ t z. sym (chain.1.goals t) ∙ z)
+        (omega (arith, pays None (λ q _. refl) refl))
 
     abbrev o : Option ℕ
-    o = ahead n' d p
+    o = ahead y.memory d p
 
-    next : Nexts d (marked n' (marks_of d)) p o
-    next = nexts n' d p (spread.sound.summed d)
+    next : Nexts d (marked y.memory (marks_of d)) p o
+    next = nexts y.memory d p (spread.sound.summed d)
 
-    closed_new : Covered m a b S d x seated.0 xs n' → (q : ℕ) → marked n' (marks_of d) q ≡ true → passed d o q ≡ true → Closed m a b d n' q
-    closed_new cov q k l t j v = elim (passed_tells d (marked n' (marks_of d)) p q o next k l) [
-      | inr e ↦ cov t (chain.1.goals t ∙ (rw e at j)) v
-      | inl e ↦ elim (spread.grown.beyond q k) [
-        | inl z ↦ spread.grown.stays (cell m SEATS t) (h.closed q z e t j v)
-        | inr z ↦ absurd (beyond_not d p q (rw seated.1 at z) e)
-      ]
-    ]
-
-    placed_new : (k : ℕ) → Covered m a b S d x seated.0 xs n' → f ≤ k + suc (length xs) → Placed m a b n' d o k
+    placed_new : (k : ℕ) → Covered m a b S d x seated.0 chain.0 y.memory → f ≤ k + suc (length chain.0) → Placed m a b y.memory d o k
     placed_new k cov l = record {
-      there = λ q e. next_there d (marked n' (marks_of d)) p q (rw e at next);
-      closed = closed_new cov;
-      enough = omega (arith, pays o (λ q. passed_more d (marked n' (marks_of d)) p q o next) (passed_here d (marked n' (marks_of d)) p o next));
+      there = λ q e. next_there d _ p q (rw e at next);
+      closed = λ q k l t j v. elim (passed_tells d _ p q o next k l) [
+        | inr e ↦ cov t (chain.1.goals t ∙ (rw e at j)) v
+        | inl e ↦ elim (spread.grown.beyond q k) [
+          | inl z ↦ spread.grown.stays (cell m SEATS t) (h.closed q z e t j v)
+          | inr z ↦ absurd (beyond_not d p q (rw seated.1 at z) e)
+        ]
+      ];
+      enough = omega (arith, pays o (λ q. passed_more d _ p q o next) (passed_here d _ p o next));
     }
 
     abbrev from : Front
     from = record { side = d; cursor = Some p; fuel = f }
 
-    told_new : (u : ControlFlow ℕ ℕ) → Ends m a b S d x seated.0 xs n' f u → Tells n' from (advanced from u n' p x)
-    told_new (Continue k) e = (refl, placed_new k e.0 e.1, inr (fewer d (marked n' (marks_of d)) p o seated.2 next))
-    told_new (Break t) e = trailed m a b S n' spread.sound d x t (spread.grown.stays (cell m SEATS x) (rw seated.1 mp)) e.0 e.1
+    told_new : (u : ControlFlow ℕ ℕ) → Ends m a b S d x seated.0 chain.0 y.memory f u → Tells y.memory from (advanced from u y.memory p x)
+    told_new (Continue k) e = (refl, placed_new k e.0 e.1, inr (fewer d _ p o seated.2 next))
+    told_new (Break t) e = trailed m a b S y.memory spread.sound d x t (spread.grown.stays (cell m SEATS x) (rw seated.1 (h.there p refl))) e.0 e.1
 
     gone_is : gone_on n (part_of m (a ⟶ b)) from ≡ moved from y p x
     unfolding gone_on
     gone_is = ap (λ (z : ℕ). moved from (spreading f n d (part_of m (a ⟶ b)) z z) p z) (s.frame.others SLOTS p refl)
 
-    pub gone_some : Gone n from (gone_on n (part_of m (a ⟶ b)) from)
-    gone_some = rw gone_is (record {
-      sound = spread.sound;
-      same_other = spread.grown.same_other;
-      told = told_new y.spread spread.told;
-    })
-
-  gone_none : (n : List ℕ) (d : Side) (f : ℕ) → Sound m a b n → Placed m a b n d None f
-      → Gone n (record { side = d; cursor = None; fuel = f }) (gone_on n (part_of m (a ⟶ b)) (record { side = d; cursor = None; fuel = f }))
-  unfolding gone_on
-  gone_none n d f s h = record { sound = s; same_other = λ q. refl; told = (refl, h, inl refl) }
+    gone_some : Gone n from (gone_on n (part_of m (a ⟶ b)) from)
+    gone_some = rw gone_is (record { sound = spread.sound; same_other = spread.grown.same_other; told = told_new y.spread spread.told })
 
   gone_at : (n : List ℕ) (d : Side) (o : Option ℕ) (f : ℕ) → Sound m a b n → Placed m a b n d o f
       → Gone n (record { side = d; cursor = o; fuel = f }) (gone_on n (part_of m (a ⟶ b)) (record { side = d; cursor = o; fuel = f }))
-  gone_at n d None f s h = gone_none n d f s h
+  unfolding gone_on
+  gone_at n d None f s h = record { sound = s; same_other = λ q. refl; told = (refl, h, inl refl) }
   gone_at n d (Some p) f s h = gone_some n s d p f h
 
   pub goes : (n : List ℕ) (c : Front) → Sound m a b n → Fronted m a b n c → Gone n c (gone_on n (part_of m (a ⟶ b)) c)

@@ -1,20 +1,12 @@
 -- The two searches over the board of slots: what a link tells of slots and seats, for both directions at once.
-use Rattle.std.proofs.Common.{◌≡◌, ℕ, ◌<◌, ◌≤◌, Bool, true, leb, List, sym, ◌∙◌, arith}
-use Rattle.std.proofs.lemmas.Bool.{and_parts, and_from, le-leb, leb-true, ltb-true, lt-ltb}
-use Rattle.order.specs.declared.board.TheConstants.{CARDS}
-use Rattle.order.specs.Lists.{place}
-use Rattle.order.specs.Board.{Board, leads, linked}
+use Rattle.std.proofs.Common.{◌≡◌, ℕ, ◌<◌, ◌≤◌, Bool, true, List, sym, ◌∙◌, arith}
+use Rattle.std.proofs.lemmas.Bool.{ltb-true, lt-ltb}
+use Rattle.std.proofs.lemmas.Bool.Decides.{nat_tests}
+use Rattle.search.proofs.Common.{CARDS, place, Board, leads, linked, PLACES, cell, SLOTS, SEATS, row_of, used, taken, Side, Fore, Hind, slot_board, part}
+use Rattle.search.proofs.Common.{Ready}
 use Rattle.order.proofs.Climbs.{Fine, fine_parts, link_ends, link_before}
 use Rattle.order.proofs.Leading.{leads_just}
-use Rattle.memory.specs.declared.place_set.TheConstants.{PLACES}
-use Rattle.memory.specs.Columns.{cell}
-use Rattle.row.specs.declared.layout.TheConstants.{SLOTS, SEATS}
-use Rattle.row.specs.Meaning.{row_of, used, taken}
 use Rattle.row.proofs.Rows.{Seated, seated, room, sitting, at_seat, has_is, order_is}
-use Rattle.search.specs.declared.side.Side.{Side}
-use Rattle.search.specs.declared.side.Side.TheVariants.{Fore, Hind}
-use Rattle.search.specs.Sides.{other}
-use Rattle.search.specs.Meaning.{slot_board, part, Ready}
 
 -- where a search begins
 abbrev pub origin : ℕ → ℕ → Side → ℕ
@@ -84,15 +76,11 @@ module _ (m : List ℕ) (a b : ℕ) (S : Setting m a b) where
   comes_on Hind x y z h e = (leads_just r z y x S.ready.fine_so).2 ((leads_just r z y y S.ready.fine_so).1 e) h
 
   -- the two searches meet: from the one's origin to the other's
-  pub comes_round : (d : Side) (x t : ℕ) → comes r d (origin a b d) x ≡ true → arc r d x t ≡ true → comes r (other d) (origin a b (other d)) t ≡ true
-      → leads r b a ≡ true
-  comes_round Fore x t h e k = (leads_just r b t a S.ready.fine_so).2 (comes_on Fore b x t h e) k
-  comes_round Hind x t h e k = (leads_just r b t a S.ready.fine_so).2 k (comes_on Hind a x t h e)
+  pub comes_round : (x t : ℕ) → leads r b x ≡ true → linked r x t ≡ true → leads r t a ≡ true → leads r b a ≡ true
+  comes_round x t h e k = (leads_just r b t a S.ready.fine_so).2 (comes_on Fore b x t h e) k
 
   pub part_tells : (q : ℕ) → part m a b q ≡ true → (cell m SEATS b ≤ q) × (q ≤ cell m SEATS a) × (q < PLACES)
-  part_tells q h =
-      let p = and_parts (leb (cell m SEATS b) q) (leb q (cell m SEATS a)) h in
-      (leb-true (cell m SEATS b) q p.0, leb-true q (cell m SEATS a) p.1, omega (arith, leb-true q (cell m SEATS a) p.1, seat_below a S.a_used))
+  part_tells q h = let u = seat_below a S.a_used in (grind (arith, nat_tests), grind (arith, nat_tests), grind (arith, nat_tests))
 
   pub part_from : (q : ℕ) → cell m SEATS b ≤ q → q ≤ cell m SEATS a → part m a b q ≡ true
-  part_from q x y = and_from _ _ (le-leb (cell m SEATS b) q x) (le-leb q (cell m SEATS a) y)
+  part_from q x y = grind (arith, nat_tests)

@@ -1,23 +1,15 @@
 -- The two searches in turn, to their end.
-use Rattle.std.proofs.Common.{◌≡◌, ℕ, zero, suc, ◌*◌, ◌<◌, ◌≤◌, true, false, ◌&&◌, ◌⊎◌, List, Some, None, Option, Continue, Break, ControlFlow, sym, refl, ap, ◌∙◌, inl, inr, arith}
+use Rattle.std.proofs.Common.{◌≡◌, ℕ, zero, suc, ◌+◌, ◌-◌, ◌*◌, ◌<◌, ◌≤◌, true, false, cond, ◌&&◌, List, Some, None, Option, Continue, Break, ControlFlow, sym, refl, ap, ◌∙◌, arith}
 use Rattle.std.proofs.lemmas.Bool.{and_parts, both_ways, cond_both}
-use Rattle.order.specs.declared.board.Link.{Link}
-use Rattle.order.specs.Board.{◌⟶◌}
-use Rattle.memory.specs.Options.{given}
-use Rattle.memory.specs.PlaceSets.{marked}
-use Rattle.search.specs.declared.side.Side.{Side}
-use Rattle.search.specs.declared.side.Side.TheVariants.{Fore, Hind}
-use Rattle.search.specs.declared.hunt.Part.{Part}
-use Rattle.search.specs.declared.hunt.Front.{Front}
-use Rattle.search.specs.Sides.{marks_of, other}
-use Rattle.search.specs.Hunt.{gone_on, idle, Met, met_with, hunt_on, hunted, part_of}
-use Rattle.search.specs.Meaning.{Parted}
+use Rattle.search.proofs.Common.{Link, ◌⟶◌, given, marked, Side, Fore, Hind, Part, Front, marks_of, other, gone_on, idle, Met, met_with, hunt_on, hunted}
+use Rattle.search.proofs.Common.{part_of, Parted}
+use Rattle.memory.proofs.Fuel.{fuel_step, fuel_end}
 use Rattle.search.specs.HuntLaws.{Found}
 use Rattle.search.proofs.Between.{Setting, part_tells}
 use Rattle.search.proofs.Sounding.{Sound}
-use Rattle.search.proofs.Entering.{which}
+use Rattle.search.proofs.Entering.{each_side}
 use Rattle.search.proofs.Parting.{Closed, parted}
-use Rattle.search.proofs.Cursors.{passed, ahead_of, some_left}
+use Rattle.search.proofs.Cursors.{passed, ahead_of, left_over}
 use Rattle.search.proofs.Advancing.{Placed, Fronted, placed_same, Tells, goes}
 
 module _ (m : List ℕ) (a b : ℕ) (S : Setting m a b) where
@@ -32,10 +24,9 @@ module _ (m : List ℕ) (a b : ℕ) (S : Setting m a b) where
     passed_none d (Some p) q i = absurd (let z : ◌≡◌ {A = ℕ} 0 1 = cc in omega arith)
 
     closed_both : (d : Side) (q : ℕ) → marked n (marks_of d) q ≡ true → Closed m a b d n q
-    closed_both d q h = elim (which c.side d) [
-      | inl i ↦ rw i (hc.closed q (rw i at h) (passed_none c.side c.cursor q ic))
-      | inr i ↦ rw (i ∙ sym o) (he.closed q (rw (i ∙ sym o) at h) (passed_none e.side e.cursor q ie))
-    ]
+    closed_both =
+        each_side (λ d. (q : ℕ) → marked n (marks_of d) q ≡ true → Closed m a b d n q) c.side (λ q h. hc.closed q h (passed_none c.side c.cursor q ic))
+        (rw (← o) (λ q h. he.closed q h (passed_none e.side e.cursor q ie)))
 
     both_done : Parted m n a b
     both_done = parted m a b S n s closed_both
@@ -43,7 +34,7 @@ module _ (m : List ℕ) (a b : ℕ) (S : Setting m a b) where
   none_left : (n : List ℕ) (s : Sound m a b n) (d : Side) (o : Option ℕ) (f : ℕ) → Placed m a b n d o f → ahead_of d o ≡ 0 → o ≡ None
   none_left n s d None f h z = refl
   none_left n s d (Some p) f h z =
-      absurd (omega (arith, some_left d p (part_tells m a b S p (s.within d p (h.there p refl)).1).2))
+      absurd (omega (arith, left_over d p (part_tells m a b S p (s.within d p (h.there p refl)).1).2))
 
   idle_none : (o : Option ℕ) → given o true (λ p. false) ≡ true → o ≡ None
   idle_none None h = refl
@@ -60,10 +51,6 @@ module _ (m : List ℕ) (a b : ℕ) (S : Setting m a b) where
   two_sides : (d e f : Side) → e ≡ other d → f ≡ d → f ≡ other e
   two_sides Fore e f p q = q ∙ ap other (sym p)
   two_sides Hind e f p q = q ∙ ap other (sym p)
-
-  fewer_turns : (f k l : ℕ) → 2 * l ≤ suc (suc f) → (k ≡ 0) ⊎ (k < l) → 2 * k ≤ f
-  fewer_turns f k l h (inl z) = omega arith
-  fewer_turns f k l h (inr z) = omega arith
 
   abbrev turns : Front → ℕ
   turns c = ahead_of c.side c.cursor
@@ -84,4 +71,18 @@ module _ (m : List ℕ) (a b : ℕ) (S : Setting m a b) where
       (λ _. by_answer x.memory c x.advance rest G.told (λ k t.
       hunts f x.memory e k G.sound (two_sides c.side e.side k.side o t.0)
       (placed_same m a b n x.memory e.side e.cursor e.fuel (rw o G.same_other) he) t.1
-      (omega arith) (fewer_turns f (turns k) (turns c) lc t.2)))
+      (omega arith) (let u = t.2 in omega arith)))
+
+-- the steps of the loop
+module _ (N i : ℕ) (m : List ℕ) (w : Part) (c d : Front) where
+  pub hunted_at : i < N → hunted (N - i) m w c d
+      ≡ cond (idle c && idle d) (met_with None m)
+      (hunt_on (gone_on m w c).advance (gone_on m w c).memory (λ e. hunted (N - (i + 1)) (gone_on m w c).memory w d e))
+  unfolding hunted
+  hunted_at h = fuel_step (λ f. hunted f m w c d) N i h
+
+  pub hunted_end : N ≤ i → hunted (N - i) m w c d ≡ met_with None m
+  unfolding hunted
+  hunted_end h = fuel_end (λ f. hunted f m w c d) N i h
+
+pub ruleset hunting = (hunted_at, hunted_end)

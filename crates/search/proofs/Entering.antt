@@ -1,38 +1,29 @@
 -- A search comes to one slot more.
-use Rattle.std.proofs.Common.{◌≡◌, ℕ, ◌<◌, Bool, true, false, cond, not, ◌&&◌, ◌||◌, eqb, ◌⊎◌, List, [], ◌∷◌, refl, sym, ap, ◌∙◌, inl, inr, arith}
-use Rattle.std.proofs.lemmas.Bool.{both_ways, cases_Bool, cases_eq, or_cases, or_left, or_right, eq-eqb, eqb-true}
-use Rattle.order.specs.Board.{◌⟶◌}
-use Rattle.memory.specs.declared.place_set.TheConstants.{PLACES}
-use Rattle.memory.specs.Columns.{cell, written, apart}
-use Rattle.memory.specs.Footprints.{Writes, clear}
-use Rattle.memory.specs.PlaceSets.{marked, fresh, added}
-use Rattle.memory.specs.PlaceSetLaws.{Summed}
+use Rattle.std.proofs.Common.{◌≡◌, ℕ, ◌<◌, Bool, true, false, cond, not, ◌&&◌, ◌||◌, eqb, ◌⊎◌, List, [], ◌∷◌, refl, sym, ap, ◌∙◌, inl, inr, ⊎_elim, arith}
+use Rattle.std.proofs.lemmas.Bool.{both_ways, cases_eq, cond_both}
+use Rattle.std.proofs.lemmas.Bool.Decides.{nat_tests}
+use Rattle.search.proofs.Common.{◌⟶◌, PLACES, cell, written, apart, Writes, clear, marked, fresh, added, Summed, SLOTS, SEATS, used, Side, Fore, Hind, VIA}
+use Rattle.search.proofs.Common.{searched, marks_of, other, sees, entered, part_of, slot_board, slot_on, part}
 use Rattle.memory.proofs.Cells.{length_written, cell_same, cell_other, cell_apart}
 use Rattle.memory.proofs.Footprints.{put}
 use Rattle.memory.proofs.Adding.{adding}
 use Rattle.memory.proofs.Alone.{writes_added}
-use Rattle.row.specs.declared.layout.TheConstants.{SLOTS, SEATS}
-use Rattle.row.specs.Meaning.{used}
-use Rattle.search.specs.declared.side.Side.{Side}
-use Rattle.search.specs.declared.side.Side.TheVariants.{Fore, Hind}
-use Rattle.search.specs.declared.layout.TheConstants.{VIA}
-use Rattle.search.specs.Columns.{searched}
-use Rattle.search.specs.Sides.{marks_of, other}
-use Rattle.search.specs.Hunt.{sees, entered, part_of}
-use Rattle.search.specs.Meaning.{slot_board, slot_on, part}
 use Rattle.search.proofs.Touching.{writes_marked}
 use Rattle.search.proofs.Between.{origin, arc, comes, Setting, used_tells, arc_tells, comes_on, part_tells}
 use Rattle.search.proofs.Sounding.{Sound, Grown, marked_same, summed_same}
 
-pub which : (d e : Side) → (e ≡ d) ⊎ (e ≡ other d)
-which Fore Fore = inl refl
-which Fore Hind = inr refl
-which Hind Fore = inr refl
-which Hind Hind = inl refl
+-- what is so of one search and of the other is so of both
+pub each_side : (P : Side → Type 0) (d : Side) → P d → P (other d) → (e : Side) → P e
+each_side P Fore x y Fore = x
+each_side P Fore x y Hind = y
+each_side P Hind x y Fore = y
+each_side P Hind x y Hind = x
 
-pub never_both : (d e : Side) → e ≡ d → e ≡ other d → ⊥
-never_both Fore e p q = let z : ◌≡◌ {A = ℕ} 0 1 = cc in omega arith
-never_both Hind e p q = let z : ◌≡◌ {A = ℕ} 0 1 = cc in omega arith
+never_both : (A : Side → ℕ → Type 0) (d : Side) → ((z : ℕ) → A d z → A (other d) z → ⊥) → (e : Side) (z : ℕ) → A e z → A (other e) z → ⊥
+never_both A Fore x Fore z h g = x z h g
+never_both A Fore x Hind z h g = x z g h
+never_both A Hind x Fore z h g = x z g h
+never_both A Hind x Hind z h g = x z h g
 
 marks_apart : (d : Side) → (clear (marks_of d ∷ []) (marks_of (other d)) ≡ true) × (clear (marks_of d ∷ []) VIA ≡ true) × (apart VIA (marks_of d) ≡ true)
 marks_apart Fore = (refl, refl, refl)
@@ -77,22 +68,22 @@ module _ (m : List ℕ) (a b : ℕ) (S : Setting m a b) (n : List ℕ) (s : Soun
     not_own z = marked_same n n' (marks_of (other d)) cells_other z
 
     old : (e : Side) (z : ℕ) → marked n (marks_of e) z ≡ true → marked n' (marks_of e) z ≡ true
-    old e z h = elim (which d e) [
-      | inl i ↦ rw i (own z ∙ or_right (eqb z q) (marked n (marks_of d) z) (rw i at h))
-      | inr i ↦ rw i (not_own z ∙ (rw i at h))
-    ]
+    old e z =
+        each_side (λ e. marked n (marks_of e) z ≡ true → marked n' (marks_of e) z ≡ true) d (λ h. let o = own z in grind arith) (λ h. not_own z ∙ h) e
+
+    was : (e : Side) (z : ℕ) → (z ≡ q → ⊥) → marked n' (marks_of e) z ≡ true → marked n (marks_of e) z ≡ true
+    was e z ne =
+        each_side (λ e. marked n' (marks_of e) z ≡ true → marked n (marks_of e) z ≡ true) d (λ h. let o = own z in grind (arith, nat_tests))
+        (λ h. sym (not_own z) ∙ h) e
+
+    is_own : (e : Side) → marked n' (marks_of e) q ≡ true → e ≡ d
+    is_own = each_side (λ e. marked n' (marks_of e) q ≡ true → e ≡ d) d (λ h. refl) (λ h. absurd (both_ways _ unseen (sym (not_own q) ∙ h)))
 
     new : (e : Side) (z : ℕ) → marked n' (marks_of e) z ≡ true → (marked n (marks_of e) z ≡ true) ⊎ ((e ≡ d) × (z ≡ q))
-    new e z h = elim (which d e) [
-      | inl i ↦ elim (or_cases (eqb z q) (marked n (marks_of d) z) (sym (own z) ∙ (rw i at h))) [
-        | inl y ↦ inr (i, eqb-true z q y)
-        | inr y ↦ inl (rw i y)
-      ]
-      | inr i ↦ inl (rw i (sym (not_own z) ∙ (rw i at h)))
-    ]
+    new e z h = ⊎_elim (λ i. inr (is_own e (rw i at h), i)) (λ i. inl (was e z i h)) (cases_eq z q)
 
     here : marked n' (marks_of d) q ≡ true
-    here = own q ∙ or_left (eqb q q) (marked n (marks_of d) q) (eq-eqb q q refl)
+    here = let o = own q in grind (arith, nat_tests)
 
     -- slots are small
     frame : Writes searched m n'
@@ -107,66 +98,43 @@ module _ (m : List ℕ) (a b : ℕ) (S : Setting m a b) (n : List ℕ) (s : Soun
     via_old u h = cell_other n₁ VIA t u x h ∙ (writes_added (marks_of d) n q).others VIA u (marks_apart d).1
 
     summed_new : (e : Side) → Summed n' (marks_of e)
-    summed_new e = elim (which d e) [
-      | inl i ↦ rw i (summed_same n₁ n' (marks_of d) cells_own (length_written n₁ VIA t x) (adding n (marks_of d) q (s.summed d) below).0)
-      | inr i ↦ rw i (summed_same n n' (marks_of (other d)) cells_other (length_written n₁ VIA t x ∙ (writes_added (marks_of d) n q).as_long) (s.summed (other d)))
-    ]
+    summed_new =
+        each_side (λ e. Summed n' (marks_of e)) d
+        (summed_same n₁ n' (marks_of d) cells_own (length_written n₁ VIA t x) (adding n (marks_of d) q (s.summed d) below).0)
+        (summed_same n n' (marks_of (other d)) cells_other (length_written n₁ VIA t x ∙ (writes_added (marks_of d) n q).as_long) (s.summed (other d)))
 
     led_new : (e : Side) (z : ℕ) → (e ≡ d) × (z ≡ q) → comes (slot_board m) e (origin a b e) (slot_on m z) ≡ true
     led_new e z i =
-        let l = s.led d (cell m SEATS x) mx in
-        let y = rw (used_tells m a b S x ux).2 at l in
-        let h = (used_tells m a b S t used_t).2 in
-        rw (i.0, i.1, h) (comes_on m a b S d (origin a b d) x t y k)
+        let y = rw (used_tells m a b S x ux).2 at (s.led d (cell m SEATS x) mx) in
+        rw (i.0, i.1, (used_tells m a b S t used_t).2) (comes_on m a b S d (origin a b d) x t y k)
 
     trail_new : (e : Side) (u : ℕ) → used m u ≡ true → marked n' (marks_of e) (cell m SEATS u) ≡ true → (u ≡ origin a b e) ⊎
         ((used m (cell n' VIA u) ≡ true) × (marked n' (marks_of e) (cell m SEATS (cell n' VIA u)) ≡ true) × (arc (slot_board m) e (cell n' VIA u) u ≡ true))
-    trail_new e u y h = elim (new e (cell m SEATS u) h) [
-      | inr i ↦
-          let z : u ≡ t = sym (used_tells m a b S u y).2 ∙ ap (cell m SLOTS) i.1 ∙ (used_tells m a b S t used_t).2 in
-          inr (rw (z, via_new, i.0) (ux, old d (cell m SEATS x) mx, k))
-      | inl o ↦ elim (cases_eq u t) [
-        | inl z ↦ absurd (elim (which d e) [
-          | inl i ↦ both_ways (marked n (marks_of d) q) free (rw (z, i) at o)
-          | inr i ↦ both_ways (marked n (marks_of (other d)) q) unseen (rw (z, i) at o)
-        ])
-        | inr z ↦ elim (s.trail e u y o) [
-          | inl i ↦ inl i
-          | inr i ↦ inr (rw (via_old u z) (i.0, old e (cell m SEATS (cell n VIA u)) i.1, i.2))
-        ]
-      ]
+    trail_new e u y h = elim (cases_eq u t) [
+      | inl z ↦ let o = is_own e (rw z at h) in inr (rw (z, via_new, o) (ux, old d (cell m SEATS x) mx, k))
+      | inr z ↦
+          let i = λ (i : cell m SEATS u ≡ q). z (sym (used_tells m a b S u y).2 ∙ ap (cell m SLOTS) i ∙ (used_tells m a b S t used_t).2) in
+          ⊎_elim (λ i. inl i) (λ i. inr (rw (via_old u z) (i.0, old e (cell m SEATS (cell n VIA u)) i.1, i.2))) (s.trail e u y (was e (cell m SEATS u) i h))
     ]
 
-    alone_new : (e : Side) (z : ℕ) → marked n' (marks_of e) z ≡ true → marked n' (marks_of (other e)) z ≡ true → ⊥
-    alone_new e z h g = elim (new e z h) [
-      | inl o ↦ elim (new (other e) z g) [
-        | inl p ↦ s.alone e z o p
-        | inr i ↦ elim (which d e) [
-          | inl j ↦ never_both d d refl (sym i.0 ∙ ap other j)
-          | inr j ↦ both_ways (marked n (marks_of (other d)) q) unseen (rw (j, i.1) at o)
-        ]
-      ]
-      | inr i ↦ elim (new (other e) z g) [
-        | inl p ↦ both_ways (marked n (marks_of (other d)) q) unseen (rw (i.0, i.1) at p)
-        | inr j ↦ never_both d d refl (sym j.0 ∙ ap other i.0)
-      ]
-    ]
+    alone_new : (z : ℕ) → marked n' (marks_of d) z ≡ true → marked n' (marks_of (other d)) z ≡ true → ⊥
+    alone_new z h g = let o = own z in let i = not_own z in let a = s.alone d z in grind (arith, nat_tests)
 
     marks_it : Entered m a b d x t n n'
     marks_it = record {
       sound = record {
         frame = frame;
         summed = summed_new;
-        within = λ e z h. elim (new e z h) [ inl o ↦ s.within e z o | inr i ↦ rw i.1 ((used_tells m a b S t used_t).1, p) ];
+        within = λ e z h. ⊎_elim (λ o. s.within e z o) (λ i. rw i.1 ((used_tells m a b S t used_t).1, p)) (new e z h);
         start = λ e. old e (cell m SEATS (origin a b e)) (s.start e);
-        led = λ e z h. elim (new e z h) [ inl o ↦ s.led e z o | inr i ↦ led_new e z i ];
+        led = λ e z h. ⊎_elim (λ o. s.led e z o) (λ i. led_new e z i) (new e z h);
         trail = trail_new;
-        alone = alone_new;
+        alone = never_both (λ e z. marked n' (marks_of e) z ≡ true) d alone_new;
       };
       grown = record {
         stays = old d;
         same_other = not_own;
-        beyond = λ z h. elim (new d z h) [ inl o ↦ inl o | inr i ↦ inr (rw i.1 (arc_tells m a b S d x t k).2) ];
+        beyond = λ z h. ⊎_elim (λ o. inl o) (λ i. inr (rw i.1 (arc_tells m a b S d x t k).2)) (new d z h);
       };
       here = λ _. here;
     }
@@ -202,19 +170,6 @@ module _ (m : List ℕ) (a b : ℕ) (S : Setting m a b) (n : List ℕ) (s : Soun
   pub enters : sees n d (part_of m (a ⟶ b)) t ≡ false → Entered m a b d x t n (entered n d (part_of m (a ⟶ b)) x t)
   enters h =
       let v = sym seen_is ∙ h in
-      elim (cases_Bool (w q)) [
-        | inr f ↦
-            let i : entered n d (part_of m (a ⟶ b)) x t ≡ n = let j = entered_is in grind arith in
-            rw i (stays_so (λ y. absurd (both_ways (w q) f y)))
-        | inl y ↦
-            let unseen : u ≡ false = grind arith in
-            let fr = (adding n (marks_of d) q (s.summed d) (part_tells m a b S q y).2).1 in
-            elim (cases_Bool (marked n (marks_of d) q)) [
-              | inl o ↦
-                  let i : entered n d (part_of m (a ⟶ b)) x t ≡ n = let j = entered_is in grind arith in
-                  rw i (stays_so (λ _. o))
-              | inr o ↦
-                  let i : entered n d (part_of m (a ⟶ b)) x t ≡ n' = let j = entered_is in grind arith in
-                  rw i (marks_it y o unseen)
-            ]
-      ]
+      let fr = λ (y : w q ≡ true). (adding n (marks_of d) q (s.summed d) (part_tells m a b S q y).2).1 in
+      rw entered_is (cond_both (w q && (not u && fresh n (marks_of d) q)) n' n (Entered m a b d x t n)
+      (λ e. let p : w q ≡ true = grind arith in let f = fr p in marks_it p (grind arith) (grind arith)) (λ e. stays_so (λ y. let f = fr y in grind arith)))

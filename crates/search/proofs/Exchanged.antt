@@ -1,10 +1,10 @@
 -- A function with other values at some numbers, given by two lists.
-use Rattle.std.proofs.Common.{◌≡◌, ℕ, Bool, true, false, cond, not, eqb, List, [], ◌∷◌, map, length, sym, refl, ap, ◌∙◌, ap₂, inl, inr, arith}
-use Rattle.std.proofs.lemmas.Bool.{cases_Bool, eq-eqb, ne_eqb, eqb-true, both_ways, and_parts, not-true, or_parts, or_left, or_right}
+use Rattle.std.proofs.Common.{◌≡◌, ℕ, Bool, true, false, cond, eqb, List, [], ◌∷◌, map, length, sym, refl, ap, ◌∙◌, ap₂, inl, inr, arith}
+use Rattle.std.proofs.lemmas.Bool.{cases_Bool, eq-eqb, ne_eqb, eqb-true, both_ways, or_parts, or_left, or_right}
 use Rattle.order.specs.Lists.{any, filter, has, distinct}
 use Rattle.order.proofs.Filters.{has_filter}
 use Rattle.order.proofs.Members.{has_head, has_tail, not_again, distinct_tail}
-use Rattle.order.proofs.Refill.{refill, refill_skip}
+use Rattle.order.proofs.Refill.{refill}
 use Rattle.search.proofs.Mapped.{map_same}
 
 -- g with k at p
@@ -33,39 +33,22 @@ pub exchanged_out : (g : ℕ → ℕ) (ps ks : List ℕ) (x : ℕ) → has ps x 
 unfolding exchanged any
 exchanged_out g [] ks x h = refl
 exchanged_out g (p ∷ ps) [] x h = refl
-exchanged_out g (p ∷ ps) (k ∷ ks) x h =
-    let s = or_parts (eqb x p) (has ps x) h in
-    exchanged_out (with_at g p k) ps ks x s.1 ∙ rw s.0
+exchanged_out g (p ∷ ps) (k ∷ ks) x h = let s = or_parts (eqb x p) (has ps x) h in exchanged_out (with_at g p k) ps ks x s.1 ∙ rw s.0
 
-pub exchanged_in : (g : ℕ → ℕ) (ps ks : List ℕ) (x : ℕ) → length ks ≡ length ps → has ps x ≡ true → has ks (exchanged g ps ks x) ≡ true
-unfolding exchanged any
-exchanged_in g [] ks x l h = absurd (both_ways false refl h)
-exchanged_in g (p ∷ ps) [] x l h = absurd (omega arith)
-exchanged_in g (p ∷ ps) (k ∷ ks) x l h = elim (cases_Bool (has ps x)) [
-  | inl e ↦ or_right _ _ (exchanged_in (with_at g p k) ps ks x (omega arith) e)
-  | inr e ↦
-      let i : eqb x p ≡ true = grind arith in
-      let y = exchanged_out (with_at g p k) ps ks x e ∙ at_here g p k x (eqb-true x p i) in
-      or_left _ _ (eq-eqb _ _ y)
-]
-
--- the other way round it leads back
-pub exchanged_back : (g h : ℕ → ℕ) (ps ks : List ℕ) (x : ℕ) → length ks ≡ length ps → distinct ps ≡ true → distinct ks ≡ true → has ps x ≡ true →
-    exchanged h ks ps (exchanged g ps ks x) ≡ x
+-- it leads from ps to ks, and the other way round it leads back
+pub exchanged_in : (g h : ℕ → ℕ) (ps ks : List ℕ) (x : ℕ) → length ks ≡ length ps → distinct ps ≡ true → distinct ks ≡ true → has ps x ≡ true →
+    (has ks (exchanged g ps ks x) ≡ true) × (exchanged h ks ps (exchanged g ps ks x) ≡ x)
 unfolding exchanged any distinct
-exchanged_back g h [] ks x l d e i = absurd (both_ways false refl i)
-exchanged_back g h (p ∷ ps) [] x l d e i = absurd (omega arith)
-exchanged_back g h (p ∷ ps) (k ∷ ks) x l d e i =
-    let dp = and_parts (not (has ps p)) (distinct ps) d in
-    let ek = and_parts (not (has ks k)) (distinct ks) e in
-    elim (cases_Bool (has ps x)) [
-      | inl j ↦ exchanged_back (with_at g p k) (with_at h k p) ps ks x (omega arith) dp.1 ek.1 j
-      | inr j ↦
-          let q : eqb x p ≡ true = grind arith in
-          let y : exchanged (with_at g p k) ps ks x ≡ k = exchanged_out (with_at g p k) ps ks x j ∙ at_here g p k x (eqb-true x p q) in
-          ap (exchanged (with_at h k p) ks ps) y
-          ∙ exchanged_out (with_at h k p) ks ps k (not-true _ ek.0) ∙ at_here h k p k refl ∙ sym (eqb-true x p q)
-    ]
+exchanged_in g h [] ks x l d e i = absurd (both_ways false refl i)
+exchanged_in g h (p ∷ ps) [] x l d e i = absurd (omega arith)
+exchanged_in g h (p ∷ ps) (k ∷ ks) x l d e i = elim (cases_Bool (has ps x)) [
+  | inl j ↦ let ih = exchanged_in (with_at g p k) (with_at h k p) ps ks x (omega arith) (grind arith) (grind arith) j in (or_right _ _ ih.0, ih.1)
+  | inr j ↦
+      let q : x ≡ p = eqb-true x p (grind arith) in
+      let y : exchanged (with_at g p k) ps ks x ≡ k = exchanged_out (with_at g p k) ps ks x j ∙ at_here g p k x q in
+      let z = exchanged_out (with_at h k p) ks ps k (grind arith) ∙ at_here h k p k refl in
+      rw y (or_left _ _ (eq-eqb k k refl), z ∙ sym q)
+]
 
 -- a list made from such a function
 refill_none : (T : ℕ → Bool) (xs : List ℕ) → refill T [] xs ≡ xs
@@ -78,21 +61,9 @@ unfolding exchanged
 exchanged_none g [] x = refl
 exchanged_none g (p ∷ ps) x = refl
 
-refill_here : (T : ℕ → Bool) (k : ℕ) (ks : List ℕ) (x : ℕ) (xs : List ℕ) → T x ≡ true → refill T (k ∷ ks) (x ∷ xs) ≡ k ∷ refill T ks xs
-unfolding refill
-refill_here T k ks x xs e = rw e
-
-filter_here : (M : ℕ → Bool) (x : ℕ) (xs : List ℕ) → M x ≡ true → filter M (x ∷ xs) ≡ x ∷ filter M xs
-unfolding filter
-filter_here M x xs e = rw e
-
-filter_past : (M : ℕ → Bool) (x : ℕ) (xs : List ℕ) → M x ≡ false → filter M (x ∷ xs) ≡ filter M xs
-unfolding filter
-filter_past M x xs e = rw e
-
 pub exchanged_made : (T M : ℕ → Bool) (g : ℕ → ℕ) (ks xs : List ℕ) → distinct xs ≡ true → ((p : ℕ) → has xs p ≡ true → M p ≡ T (g p)) →
     map (exchanged g (filter M xs) ks) xs ≡ refill T ks (map g xs)
-unfolding refill exchanged
+unfolding refill exchanged filter
 exchanged_made T M g ks [] d t = refl
 exchanged_made T M g [] (x ∷ xs) d t =
     map_same (exchanged g (filter M (x ∷ xs)) []) g (x ∷ xs) (λ p h. exchanged_none g (filter M (x ∷ xs)) p) ∙ sym (refill_none T _)
@@ -101,15 +72,14 @@ exchanged_made T M g (k ∷ ks) (x ∷ xs) d t = elim (cases_Bool (M x)) [
       let else_same : (p : ℕ) → has xs p ≡ true → with_at g x k p ≡ g p = λ p h. at_else g x k p (λ i. again p h i) in
       let ih = exchanged_made T M (with_at g x k) ks xs d₁ (λ p h. t p (has_tail x xs p h) ∙ ap T (sym (else_same p h))) in
       let hd = exchanged_out (with_at g x k) (filter M xs) ks x none ∙ at_here g x k x refl in
-      let v : T (g x) ≡ true = sym (t x (has_head x xs)) ∙ e in
-      ap (λ (zs : List ℕ). map (exchanged g zs (k ∷ ks)) (x ∷ xs)) (filter_here M x xs e)
-      ∙ ap₂ ◌∷◌ hd (ih ∙ ap (refill T ks) (map_same (with_at g x k) g xs else_same)) ∙ sym (refill_here T k ks (g x) (map g xs) v)
+      let kept : filter M (x ∷ xs) ≡ x ∷ filter M xs = rw e in
+      ap (λ (zs : List ℕ). map (exchanged g zs (k ∷ ks)) (x ∷ xs)) kept
+      ∙ rw (sym (t x (has_head x xs)) ∙ e) (ap₂ ◌∷◌ hd (ih ∙ ap (refill T ks) (map_same (with_at g x k) g xs else_same)))
   | inr e ↦
       let ih = exchanged_made T M g (k ∷ ks) xs d₁ (λ p h. t p (has_tail x xs p h)) in
-      let hd = exchanged_out g (filter M xs) (k ∷ ks) x none in
-      let v : T (g x) ≡ false = sym (t x (has_head x xs)) ∙ e in
-      ap (λ (zs : List ℕ). map (exchanged g zs (k ∷ ks)) (x ∷ xs)) (filter_past M x xs e)
-      ∙ ap₂ ◌∷◌ hd ih ∙ sym (refill_skip T (k ∷ ks) (g x) (map g xs) v)
+      let passed : filter M (x ∷ xs) ≡ filter M xs = rw e in
+      ap (λ (zs : List ℕ). map (exchanged g zs (k ∷ ks)) (x ∷ xs)) passed
+      ∙ rw (sym (t x (has_head x xs)) ∙ e) (ap₂ ◌∷◌ (exchanged_out g (filter M xs) (k ∷ ks) x none) ih)
 ]
   where
     d₁ : distinct xs ≡ true

@@ -27,33 +27,32 @@ module _ (next name : ℕ → ℕ) (e s : ℕ) (was : List ℕ) where
   ks = trail next (length was) e s
 
   module _ (out : List ℕ) (i at : ℕ) (w : Walked next name e s was out i at) where
-    rest_at : i < length was → drop i ks ≡ at ∷ cond (eqb at e) [] (trail next (length was - (i + 1)) e (next at))
+    here : i < length was →
+        (i < length ks) × (at ≡ get_or ks i 0) × (drop (i + 1) ks ≡ cond (eqb at e) [] (trail next (length was - (i + 1)) e (next at)))
     unfolding trail
-    rest_at h = w.rest ∙ fuel_step (λ n. trail next n e at) (length was) i h
-
-    inside : i < length was → i < length ks
-    inside h = omega (arith, ap length (rest_at h), length-drop i ks)
-
-    here : i < length was → (at ≡ get_or ks i 0) × (drop (i + 1) ks ≡ cond (eqb at e) [] (trail next (length was - (i + 1)) e (next at)))
-    here h = let a = drop_more ks i 0 (inside h) in let b = rest_at h in ((cc), (cc))
+    here h =
+        let b = w.rest ∙ fuel_step (λ n. trail next n e at) (length was) i h in
+        let l : i < length ks = omega (arith, ap length b, length-drop i ks) in
+        let a = drop_more ks i 0 l in
+        (l, (cc), (cc))
 
     -- v is the card of the slot, and b the slot that follows
     written_one : (v : ℕ) → i < length was → v ≡ name at → set out i v ≡ map name (take (i + 1) ks) ++ drop (i + 1) was
     written_one v h x =
-        ap (set out i) (x ∙ ap name (here h).0) ∙ front_more name ks was out i (inside h) (trail_few next (length was) e s) w.front
+        ap (set out i) (x ∙ ap name (here h).1) ∙ front_more name ks was out i (here h).0 (trail_few next (length was) e s) w.front
 
     pub walked_more : (v b : ℕ) → i < length was → (at ≡ e → ⊥) → v ≡ name at → b ≡ next at → Walked next name e s was (set out i v) (i + 1) b
     walked_more v b h n x y =
         record {
-          rest = (rw (ne_eqb at e n) at (here h).1) ∙ ap (trail next (length was - (i + 1)) e) (sym y);
-          within = omega (arith, inside h);
+          rest = (rw (ne_eqb at e n) at (here h).2) ∙ ap (trail next (length was - (i + 1)) e) (sym y);
+          within = omega (arith, (here h).0);
           front = written_one v h x;
         }
 
     pub walked_last : (v : ℕ) → i < length was → at ≡ e → v ≡ name at → (i + 1 ≡ length ks) × (set out i v ≡ map name ks ++ drop (i + 1) was)
     walked_last v h y x =
-        let z : drop (i + 1) ks ≡ [] = rw (eq-eqb at e y) at (here h).1 in
-        let l : length ks ≡ i + 1 = omega (arith, inside h, ap length z, length-drop (i + 1) ks) in
+        let z : drop (i + 1) ks ≡ [] = rw (eq-eqb at e y) at (here h).2 in
+        let l : length ks ≡ i + 1 = omega (arith, (here h).0, ap length z, length-drop (i + 1) ks) in
         (sym l, written_all name ks was (set out i v) (i + 1) l (written_one v h x))
 
     pub walked_end : (n : ℕ) → length was ≤ i → i ≤ length was → n ≡ length was → (n ≡ length ks) × (out ≡ map name ks ++ drop n was)

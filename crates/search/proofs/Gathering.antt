@@ -1,22 +1,17 @@
 -- The slots at the marked seats are written to CHOSEN, one after another.
-use Rattle.std.proofs.Common.{◌≡◌, ℕ, zero, suc, ◌+◌, ◌^◌, ◌<◌, ◌≤◌, Bool, true, List, [], ◌∷◌, ◌++◌, map, length, Some, None, Option, sym, refl, ap, ◌∙◌, ap₂, add-zero, arith}
-use Rattle.order.specs.declared.board.TheConstants.{CARDS}
-use Rattle.order.specs.Lists.{has}
+use Rattle.std.proofs.Common.{◌≡◌, ℕ, zero, suc, ◌+◌, ◌-◌, ◌^◌, ◌<◌, ◌≤◌, Bool, true, List, [], ◌∷◌, ◌++◌, map, length, Option, sym, refl, ap, ◌∙◌, ap₂, add-zero, arith}
+use Rattle.search.proofs.Common.{CARDS, has, Column, cell, written, apart, SLOTS, clear, Writes, CHOSEN, marked, next_up, first_mark, Summed, CellsAlone}
+use Rattle.search.proofs.Common.{Gathered, gathered, gathers, both_next, seated, dealt, given}
 use Rattle.order.proofs.Members.{has_head, has_tail}
-use Rattle.memory.specs.declared.column.Column.{Column}
-use Rattle.memory.specs.Columns.{cell, written, apart}
-use Rattle.row.specs.declared.layout.TheConstants.{SLOTS}
-use Rattle.memory.specs.Footprints.{clear, Writes}
 use Rattle.memory.proofs.Footprints.{same, on, put_one}
 use Rattle.memory.proofs.Cells.{length_written, cell_same, cell_other, cell_apart}
-use Rattle.search.specs.declared.layout.TheConstants.{CHOSEN}
-use Rattle.memory.specs.PlaceSets.{marked, next_up, first_mark}
-use Rattle.memory.specs.PlaceSetLaws.{Summed, CellsAlone}
-use Rattle.search.specs.Settle.{gathered, gathers}
 use Rattle.memory.proofs.Alone.{cells_alone}
 use Rattle.memory.proofs.Upward.{going_up, first_of_all}
 use Rattle.search.proofs.Listed.{From, Lists, from_after, from_least, from_list}
-use Rattle.search.proofs.SettleSteps.{all}
+use Rattle.memory.proofs.Fuel.{fuel_step, fuel_end}
+
+abbrev pub all : List ℕ → ℕ → Gathered
+all m i = record { memory = m; end = i }
 
 -- the column c marks what passes T
 pub record Marking (m : List ℕ) (c : Column) (T : ℕ → Bool) : Type 0 where
@@ -54,10 +49,9 @@ wrote_append m i j (k ∷ ks) js e = wrote_append (written m CHOSEN i k) (i + 1)
 
 pub writes_wrote : (m : List ℕ) (i : ℕ) (ks : List ℕ) → ((k : ℕ) → has ks k ≡ true → k < 2 ^ 64) → Writes (CHOSEN ∷ []) m (wrote m i ks)
 unfolding wrote
-writes_wrote m i [] h = same (CHOSEN ∷ []) m
+writes_wrote m i [] h = same _ m
 writes_wrote m i (k ∷ ks) h =
-    on (CHOSEN ∷ []) m (written m CHOSEN i k) (wrote (written m CHOSEN i k) (i + 1) ks) (put_one m CHOSEN i k (λ s. h k (has_head k ks)))
-    (writes_wrote (written m CHOSEN i k) (i + 1) ks (λ s e. h s (has_tail k ks s e)))
+    on _ m _ _ (put_one m CHOSEN i k (λ s. h k (has_head k ks))) (writes_wrote (written m CHOSEN i k) (i + 1) ks (λ s e. h s (has_tail k ks s e)))
 
 -- what stands in CHOSEN from the index i on
 abbrev pub Reads : List ℕ → ℕ → List ℕ → Type 0
@@ -78,35 +72,44 @@ wrote_reads m i (k ∷ ks) l r = (
 )
 
 -- the loop writes the SLOTS of the list of marked SEATS
-gathered_none : (f : ℕ) (m : List ℕ) (c : Column) (i : ℕ) → gathered f m c None i ≡ all m i
-unfolding gathered
-gathered_none zero m c i = refl
-gathered_none (suc f) m c i = refl
-
-abbrev next_memory : List ℕ → ℕ → ℕ → List ℕ
-next_memory m i p = written m CHOSEN i (cell m SLOTS p)
-
-gathered_some : (f : ℕ) (m : List ℕ) (c : Column) (p i : ℕ) →
-    gathered (suc f) m c (Some p) i ≡ gathered f (next_memory m i p) c (next_up (next_memory m i p) c p) (i + 1)
-unfolding gathered
-gathered_some f m c p i = refl
-
 module _ (c : Column) (ap_c : apart CHOSEN c ≡ true) (T : ℕ → Bool) (slot : ℕ → ℕ) where
   gathered_list : (f : ℕ) (m : List ℕ) (q : ℕ) (qs : List ℕ) (o : Option ℕ) (i : ℕ) → Marking m c T → ((p : ℕ) → cell m SLOTS p ≡ slot p) →
       Lists T q qs → From T q o → length qs ≤ f → gathered f m c o i ≡ all (wrote m i (map slot qs)) (i + length qs)
-  unfolding wrote
-  gathered_list f m q [] o i k s l e h =
-      ap (λ (x : Option ℕ). gathered f m c x i) (from_list T q [] o l e) ∙ gathered_none f m c i ∙ ap (all m) (sym (add-zero i))
+  unfolding gathered wrote
+  gathered_list zero m q [] o i k s l e h = ap (all m) (sym (add-zero i))
   gathered_list zero m q (x ∷ qs) o i k s l e h = absurd (omega arith)
+  gathered_list (suc f) m q [] o i k s l e h = rw (from_list T q [] o l e) (ap (all m) (sym (add-zero i)))
   gathered_list (suc f) m q (x ∷ qs) o i k s l e h =
-      let m₁ = next_memory m i x in
-      let k₁ = marking_written m c CHOSEN i (cell m SLOTS x) T ap_c k in
-      let ih = gathered_list f m₁ (x + 1) qs (next_up m₁ c x) (i + 1) k₁ (λ p. cell_apart m CHOSEN SLOTS i p (cell m SLOTS x) refl ∙ s p)
+      let v = cell m SLOTS x in
+      let m₁ = written m CHOSEN i v in
+      let k₁ = marking_written m c CHOSEN i v T ap_c k in
+      let ih = gathered_list f m₁ (x + 1) qs (next_up m₁ c x) (i + 1) k₁ (λ p. cell_apart m CHOSEN SLOTS i p v refl ∙ s p)
       l.1 (from_next m₁ c T k₁ x) (omega arith) in
-      ap (λ (z : Option ℕ). gathered (suc f) m c z i) (from_list T q (x ∷ qs) o l e) ∙ gathered_some f m c x i ∙ ih
-      ∙ ap₂ all (ap (λ (z : ℕ). wrote (written m CHOSEN i z) (i + 1) (map slot qs)) (s x)) (omega arith)
+      rw (from_list T q (x ∷ qs) o l e) (ih ∙ ap₂ all (ap (λ (z : ℕ). wrote (written m CHOSEN i z) (i + 1) (map slot qs)) (s x)) (omega arith))
 
   pub gathers_list : (m : List ℕ) (qs : List ℕ) (i : ℕ) → Marking m c T → ((p : ℕ) → cell m SLOTS p ≡ slot p) → Lists T 0 qs → length qs ≤ CARDS →
       gathers m c i ≡ all (wrote m i (map slot qs)) (i + length qs)
   unfolding gathers
   gathers_list m qs i k s l h = gathered_list CARDS m 0 qs (first_mark m c) i k s l (from_first m c T k) h
+
+-- the steps of the loops that gather the slots and give them their seats
+pub gathered_at : (N j : ℕ) (m : List ℕ) (c : Column) (o : Option ℕ) (i : ℕ) → j < N →
+    gathered (N - j) m c o i ≡ given o (all m i)
+    (λ p. gathered (N - (j + 1)) (written m CHOSEN i (cell m SLOTS p)) c (next_up (written m CHOSEN i (cell m SLOTS p)) c p) (i + 1))
+unfolding gathered
+gathered_at N j m c o i h = fuel_step (λ f. gathered f m c o i) N j h
+
+pub gathered_end : (N j : ℕ) (m : List ℕ) (c : Column) (o : Option ℕ) (i : ℕ) → N ≤ j → gathered (N - j) m c o i ≡ all m i
+unfolding gathered
+gathered_end N j m c o i h = fuel_end (λ f. gathered f m c o i) N j h
+
+pub dealt_at : (N j : ℕ) (m : List ℕ) (o : Option ℕ) (i : ℕ) → j < N →
+    dealt (N - j) m o i ≡ given o m (λ p. dealt (N - (j + 1)) (seated m p i) (both_next (seated m p i) p) (i + 1))
+unfolding dealt
+dealt_at N j m o i h = fuel_step (λ f. dealt f m o i) N j h
+
+pub dealt_end : (N j : ℕ) (m : List ℕ) (o : Option ℕ) (i : ℕ) → N ≤ j → dealt (N - j) m o i ≡ m
+unfolding dealt
+dealt_end N j m o i h = fuel_end (λ f. dealt f m o i) N j h
+
+pub ruleset steps = (gathered_at, gathered_end, dealt_at, dealt_end)

@@ -1,21 +1,17 @@
 -- The numbers below an end that pass a test, in three: those before a part, those in it, and those behind it.
-use Rattle.std.proofs.Common.{◌≡◌, ℕ, zero, suc, ◌+◌, ◌-◌, ◌<◌, ◌≤◌, Bool, true, false, List, ◌∷◌, ◌++◌, length, sym, ap, ◌∙◌, inl, inr, arith, length-append}
+use Rattle.std.proofs.Common.{◌≡◌, ℕ, zero, suc, ◌+◌, ◌-◌, ◌<◌, ◌≤◌, Bool, true, false, List, ◌∷◌, ◌++◌, length, sym, ap, ap₂, ◌∙◌, arith, length-append}
 use Rattle.std.specs.List.{range_with_len}
-use Rattle.std.proofs.lemmas.Bool.{cases_Bool}
+use Rattle.std.proofs.lemmas.Bool.{false_from_ne_true}
 use Rattle.order.specs.Lists.{filter, has, distinct}
 use Rattle.order.proofs.Filters.{filter_append}
 use Rattle.search.proofs.Listed.{in_filter, filter_once}
 
 range_split : (a n k : ℕ) → range_with_len a (n + k) ≡ range_with_len a n ++ range_with_len (a + n) k
-range_split a zero k =
-    let e : zero + k ≡ k = omega arith in
-    let i : a ≡ a + zero = omega arith in
-    ap (range_with_len a) e ∙ ap (λ (x : ℕ). range_with_len x k) i
+range_split a zero k = ap₂ range_with_len (omega arith) (omega arith)
 range_split a (suc n) k =
     let e : suc n + k ≡ suc (n + k) = omega arith in
     let i : a + 1 + n ≡ a + suc n = omega arith in
-    ap (range_with_len a) e
-    ∙ ap (λ (xs : List ℕ). a ∷ xs) (range_split (a + 1) n k ∙ ap (λ (x : ℕ). range_with_len (a + 1) n ++ range_with_len x k) i)
+    ap (range_with_len a) e ∙ ap (λ (xs : List ℕ). a ∷ xs) (rw i at (range_split (a + 1) n k))
 
 -- the part has n numbers, from lo on
 module _ (f : ℕ → Bool) (lo n : ℕ) where
@@ -34,14 +30,11 @@ module _ (f : ℕ → Bool) (lo n : ℕ) where
   pub inner_once : distinct inner ≡ true
   inner_once = filter_once f lo n
 
-  not_inner : (p : ℕ) → (has inner p ≡ true → ⊥) → has inner p ≡ false
-  not_inner p h = elim (cases_Bool (has inner p)) [ inl e ↦ absurd (h e) | inr e ↦ e ]
-
   pub before_out : (p : ℕ) → has before p ≡ true → has inner p ≡ false
-  before_out p h = not_inner p (λ e. let c = in_filter f 0 lo p h in let d = in_inner p e in omega arith)
+  before_out p h = false_from_ne_true _ (λ e. let c = in_filter f 0 lo p h in let d = in_inner p e in omega arith)
 
   pub behind_out : (e p : ℕ) → has (behind e) p ≡ true → has inner p ≡ false
-  behind_out e p h = not_inner p (λ i. let c = in_filter f (lo + n) (e - (lo + n)) p h in let d = in_inner p i in omega arith)
+  behind_out e p h = false_from_ne_true _ (λ i. let c = in_filter f (lo + n) (e - (lo + n)) p h in let d = in_inner p i in omega arith)
 
   both_parts : before ++ inner ≡ filter f (range_with_len 0 (lo + n))
   both_parts =

@@ -4,11 +4,7 @@ use mathlib.Core.List.{reverse_aux}
 use Rattle.std.proofs.lemmas.Bool.{le-leb}
 use borrow.Rule.Slice.PartMut.{put_mid, post_of}
 use Rattle.std.proofs.lemmas.List.{append-nil, append_assoc, map-append, length-map, length-reverse, length-append, length-drop, take_at, take_all, drop_at, drop_all, drop-drop, drop-append-le, length-take-le, take-append-drop}
-use Rattle.order.specs.declared.board.TheConstants.{CARDS}
-use Rattle.order.specs.declared.board.Link.{Link}
-use Rattle.memory.specs.Columns.{cell}
-use Rattle.row.specs.declared.layout.TheConstants.{IDS}
-use Rattle.search.specs.declared.layout.TheConstants.{VIA}
+use Rattle.search.proofs.Common.{CARDS, Link, cell, IDS, VIA}
 use Rattle.search.specs.Way.{trail, way, shown}
 use Rattle.search.proofs.Following.{trail_few}
 

@@ -1,5 +1,5 @@
+pub mod Common
 pub mod Zeros
-pub mod Hunting
 pub mod Following
 pub mod Joining
 pub mod Rounds
@@ -24,6 +24,5 @@ pub mod Seating
 pub mod Gathering
 pub mod Dealing
 pub mod Reordered
-pub mod SettleSteps
 pub mod SettleFrames
 pub mod RowSettled

@@ -1,16 +1,14 @@
 -- The numbers that pass a test, from one on, as a list: going from each to the next goes through that list.
-use Rattle.std.proofs.Common.{◌≡◌, ℕ, zero, suc, ◌+◌, ◌<◌, ◌≤◌, min, Bool, true, false, ◌||◌, eqb, List, [], ◌∷◌, Some, None, Option, sym, refl, ap, ◌∙◌, inl, inr, arith}
+use Rattle.std.proofs.Common.{◌≡◌, ℕ, zero, suc, ◌+◌, ◌<◌, ◌≤◌, Bool, true, false, ◌||◌, eqb, List, [], ◌∷◌, Some, None, Option, sym, refl, ap, ◌∙◌, inl, inr, arith}
 use Rattle.std.specs.List.{range_with_len}
-use Rattle.std.proofs.lemmas.Bool.{cases_Bool, cases_eq, cases_lt, cases_order, eqb-true, both_ways, and_parts, or_left, or_right, or_from}
-use Rattle.order.specs.Lists.{any, filter, has, distinct}
+use Rattle.std.proofs.lemmas.Bool.{cases_Bool, cases_eq, cases_lt, eqb-true, both_ways, and_parts, or_left, or_right, or_from}
+use Rattle.search.proofs.Common.{any, filter, has, distinct, JustAfter, Least, sooner}
 use Rattle.order.proofs.Filters.{has_filter, distinct_filter}
-use Rattle.memory.specs.PlaceSetLaws.{JustAfter, Least}
-use Rattle.search.specs.Settle.{sooner}
+use Rattle.memory.proofs.Nearest.{Up, Nearest, one}
 
 -- o is the first number from p on that passes f, or there is none
 abbrev pub From : (ℕ → Bool) → ℕ → Option ℕ → Type 0
-From f p None = (r : ℕ) → p ≤ r → f r ≡ false
-From f p (Some q) = (p ≤ q) × (f q ≡ true) × ((r : ℕ) → p ≤ r → r < q → f r ≡ false)
+From f p o = Nearest Up f (λ r. p ≤ r) o
 
 -- the list is of all numbers from p on that pass f, upward
 abbrev pub Lists : (ℕ → Bool) → ℕ → List ℕ → Type 0
@@ -30,12 +28,6 @@ from_least f g None e a = λ r l. sym (e r) ∙ a r
 from_least f g (Some q) e a = (omega arith, sym (e q) ∙ a.0, λ r l h. sym (e r) ∙ a.1 r h)
 
 -- the first of two tests
-min_left : (p q : ℕ) → p ≤ q → min p q ≡ p
-min_left p q l = omega arith
-
-min_right : (p q : ℕ) → q ≤ p → min p q ≡ q
-min_right p q l = omega arith
-
 abbrev both : (ℕ → Bool) → (ℕ → Bool) → ℕ → Bool
 both f g r = f r || g r
 
@@ -43,20 +35,14 @@ pub from_sooner : (f g : ℕ → Bool) (p : ℕ) (o q : Option ℕ) → From f p
 from_sooner f g p None None a b = λ r l. or_from (f r) (g r) (a r l) (b r l)
 from_sooner f g p None (Some y) a b = (b.0, or_right (f y) (g y) b.1, λ r l h. or_from (f r) (g r) (a r l) (b.2 r l h))
 from_sooner f g p (Some x) None a b = (a.0, or_left (f x) (g x) a.1, λ r l h. or_from (f r) (g r) (a.2 r l h) (b r l))
-from_sooner f g p (Some x) (Some y) a b = elim (cases_lt x y) [
-  | inl l ↦ rw (min_left x y (omega arith)) (a.0, or_left (f x) (g x) a.1, λ r k h. or_from (f r) (g r) (a.2 r k h) (b.2 r k (omega arith)))
-  | inr l ↦ rw (min_right x y l) (b.0, or_right (f y) (g y) b.1, λ r k h. or_from (f r) (g r) (a.2 r k (omega arith)) (b.2 r k h))
-]
+from_sooner f g p (Some x) (Some y) a b = (omega arith, grind arith, λ r l h. or_from (f r) (g r) (a.2 r l (omega arith)) (b.2 r l (omega arith)))
 
 pub from_list : (f : ℕ → Bool) (p : ℕ) (qs : List ℕ) (o : Option ℕ) → Lists f p qs → From f p o → o ≡ head_of qs
-from_list f p [] None l a = refl
-from_list f p [] (Some x) l a = absurd (both_ways (f x) (l x a.0) a.1)
-from_list f p (q ∷ qs) None l a = absurd (both_ways (f q) (a q l.0.0) l.0.1)
-from_list f p (q ∷ qs) (Some x) l a = elim (cases_order x q) [
-  | inl e ↦ ap Some e
-  | inr (inl h) ↦ absurd (both_ways (f x) (l.0.2 x a.0 h) a.1)
-  | inr (inr h) ↦ absurd (both_ways (f q) (a.2 q l.0.0 h) l.0.1)
-]
+from_list f p qs o l a = one Up f (λ r. p ≤ r) o (head_of qs) (grind arith) a (first qs l)
+  where
+    first : (qs : List ℕ) → Lists f p qs → From f p (head_of qs)
+    first [] l = l
+    first (q ∷ qs) l = l.0
 
 -- the list, if none but some in a row of numbers pass
 pub lists_filter : (f : ℕ → Bool) (p a n : ℕ) → p ≤ a → ((r : ℕ) → p ≤ r → r < a → f r ≡ false) → ((r : ℕ) → a + n ≤ r → f r ≡ false) →

@@ -1,15 +1,10 @@
 -- What a function makes of a list: what the list of its values has, and what a test of these keeps.
 use Rattle.std.proofs.Common.{◌≡◌, ℕ, ◌≤◌, Bool, true, false, not, ◌&&◌, eqb, List, [], ◌∷◌, ◌++◌, map, length, sym, refl, ap, ◌∙◌, inl, inr, arith}
-use Rattle.std.specs.List.{filter as std_filter}
-use Rattle.std.proofs.lemmas.Bool.{cases_Bool, eqb-true, eq-eqb, both_ways, and_parts, or_left, or_right}
+use Rattle.std.proofs.lemmas.Bool.Decides.{nat_tests}
+use Rattle.std.proofs.lemmas.Bool.{false_from_ne_true, cases_Bool, eqb-true, eq-eqb, both_ways, and_parts, or_left, or_right}
 use Rattle.order.specs.Lists.{any, filter, has, distinct}
 use Rattle.order.proofs.Places.{has_append}
 use Rattle.order.proofs.Members.{has_head, has_tail, not_again, distinct_tail}
-
-pub filter_std : (f : ℕ → Bool) (xs : List ℕ) → std_filter f xs ≡ filter f xs
-unfolding filter
-filter_std f [] = refl
-filter_std f (x ∷ xs) = let ih = filter_std f xs in grind arith
 
 pub map_same : (f g : ℕ → ℕ) (xs : List ℕ) → ((p : ℕ) → has xs p ≡ true → f p ≡ g p) → map f xs ≡ map g xs
 map_same f g [] h = refl
@@ -29,10 +24,7 @@ map_has g (x ∷ xs) k h = elim (cases_Bool (eqb k (g x))) [
 pub has_map : (g : ℕ → ℕ) (xs : List ℕ) (p k : ℕ) → has xs p ≡ true → g p ≡ k → has (map g xs) k ≡ true
 unfolding any
 has_map g [] p k h e = absurd (both_ways false refl h)
-has_map g (x ∷ xs) p k h e = elim (cases_Bool (eqb p x)) [
-  | inl i ↦ or_left _ _ (eq-eqb k (g x) (sym e ∙ ap g (eqb-true p x i)))
-  | inr i ↦ or_right (eqb k (g x)) _ (has_map g xs p k (grind arith) e)
-]
+has_map g (x ∷ xs) p k h e = let ih = has_map g xs p k in grind (arith, nat_tests)
 
 -- different numbers have different values
 pub distinct_map : (g : ℕ → ℕ) (xs : List ℕ) → distinct xs ≡ true → ((p q : ℕ) → has xs p ≡ true → has xs q ≡ true → g p ≡ g q → p ≡ q) →
@@ -40,22 +32,16 @@ pub distinct_map : (g : ℕ → ℕ) (xs : List ℕ) → distinct xs ≡ true �
 unfolding distinct
 distinct_map g [] d inj = refl
 distinct_map g (x ∷ xs) d inj =
-    let ih = distinct_map g xs (distinct_tail x xs d) (λ p q h k. inj p q (has_tail x xs p h) (has_tail x xs q k)) in
-    elim (cases_Bool (has (map g xs) (g x))) [
-      | inl e ↦
-          let w = map_has g xs (g x) e in
-          let s = inj x w.0 (has_head x xs) (has_tail x xs w.0 w.1) (sym w.2) in
-          absurd (both_ways (has xs x) (not_again x xs d) (ap (has xs) s ∙ w.1))
-      | inr e ↦ rw (e, ih)
-    ]
+    let new = false_from_ne_true _ (λ e.
+    let w = map_has g xs (g x) e in
+    let s = inj x w.0 (has_head x xs) (has_tail x xs w.0 w.1) (sym w.2) in
+    both_ways (has xs x) (not_again x xs d) (ap (has xs) s ∙ w.1)) in
+    rw (new, distinct_map g xs (distinct_tail x xs d) (λ p q h k. inj p q (has_tail x xs p h) (has_tail x xs q k)))
 
 pub map_filter : (g : ℕ → ℕ) (A : ℕ → Bool) (xs : List ℕ) → map g (filter (λ p. A (g p)) xs) ≡ filter A (map g xs)
 unfolding filter
 map_filter g A [] = refl
-map_filter g A (x ∷ xs) = let ih = map_filter g A xs in elim (cases_Bool (A (g x))) [
-  | inl t ↦ rw t (ap (λ (ys : List ℕ). g x ∷ ys) ih)
-  | inr t ↦ rw t ih
-]
+map_filter g A (x ∷ xs) = let ih = map_filter g A xs in grind arith
 
 pub filter_same : (f g : ℕ → Bool) (xs : List ℕ) → ((p : ℕ) → has xs p ≡ true → f p ≡ g p) → filter f xs ≡ filter g xs
 unfolding filter

@@ -1,15 +1,11 @@
 -- What a search meets in the chain of a slot: just the slots that it is linked to, one for each link.
-use Rattle.std.proofs.Common.{◌≡◌, ℕ, zero, suc, ◌+◌, ◌<◌, ◌≤◌, Bool, ◌&&◌, ◌||◌, eqb, List, [], ◌∷◌, map, reverse, length, Some, None, Option, sym, refl, ap, ◌∙◌, inl, inr, arith}
+use Rattle.std.proofs.Common.{◌≡◌, ℕ, zero, suc, ◌+◌, ◌<◌, ◌≤◌, Bool, ◌&&◌, ◌||◌, eqb, List, [], ◌∷◌, map, reverse, length, sym, refl, ap, ◌∙◌, inl, inr, arith}
 use mathlib.Core.List.{reverse_aux}
 use Rattle.std.proofs.lemmas.Bool.{cases_Bool}
 use Rattle.std.proofs.lemmas.Bool.Decides.{nat_tests}
 use Rattle.std.proofs.lemmas.List.{length-map, length-reverse}
-use Rattle.order.specs.declared.board.TheConstants.{CARDS}
-use Rattle.order.specs.declared.board.Link.{Link}
-use Rattle.order.specs.Lists.{any, has, filter}
-use Rattle.memory.specs.Columns.{cell}
-use Rattle.memory.specs.Options.{given}
-use Rattle.chains.specs.declared.cells.Pointer.{Pointer}
+use Rattle.search.proofs.Common.{CARDS, Link, any, has, filter, cell, Pointer, edges, IsTable, Side, Fore, Hind, table_of, slot_board}
+use Rattle.memory.proofs.Options.{given_holds}
 use Rattle.chains.specs.declared.chain_table.ChainTable.{ChainTable}
 use Rattle.chains.specs.Tables.{node, at}
 use Rattle.chains.specs.Chains.{Holds}
@@ -19,12 +15,7 @@ use Rattle.chains.proofs.Walking.{Leads, leads}
 use Rattle.chains.proofs.Reading.{reads}
 use Rattle.links.specs.declared.layout.TheConstants.{ENTRIES, AGE, ALL}
 use Rattle.links.specs.Pairs.{unpair}
-use Rattle.links.specs.Table.{edges, IsTable}
 use Rattle.links.specs.Laws.{Gives}
-use Rattle.search.specs.declared.side.Side.{Side}
-use Rattle.search.specs.declared.side.Side.TheVariants.{Fore, Hind}
-use Rattle.search.specs.Sides.{table_of}
-use Rattle.search.specs.Meaning.{slot_board}
 use Rattle.links.proofs.Giving.{gives}
 use Rattle.search.proofs.Between.{arc}
 use Rattle.search.proofs.Potential.{entries, entries_are}
@@ -47,14 +38,10 @@ pub record Along (m : List ℕ) (d : Side) (s : ℕ) (xs : List Pointer) : Type 
   pub goals : (t : ℕ) → has (labels xs) t ≡ arc (slot_board m) d s t
   pub long : length xs ≡ entries (near_end d) s (edges m)
 
-any_turned : (f : ℕ → Bool) (xs ys : List ℕ) → any f (reverse_aux xs ys) ≡ (any f xs || any f ys)
+has_turned : (xs ys : List ℕ) (t : ℕ) → has (reverse_aux xs ys) t ≡ (has ys t || has xs t)
 unfolding any
-any_turned f [] ys = refl
-any_turned f (x ∷ xs) ys = any_turned f xs (x ∷ ys) ∙ grind arith
-
-has_turned : (xs : List ℕ) (t : ℕ) → has (reverse xs) t ≡ has xs t
-unfolding any
-has_turned xs t = let e = any_turned (eqb t) xs [] in grind arith
+has_turned [] ys t = grind arith
+has_turned (x ∷ xs) ys t = has_turned xs (x ∷ ys) t ∙ grind arith
 
 has_ends : (p : Link → Bool) (g : Link → ℕ) (t : ℕ) (ls : List Link) → has (map g (filter p ls)) t ≡ any (λ l. p l && eqb (g l) t) ls
 unfolding any filter
@@ -88,7 +75,7 @@ heads_of Fore = (refl, omega arith)
 heads_of Hind = (refl, omega arith)
 
 pub along : (m : List ℕ) → IsTable m → (d : Side) (s : ℕ) → s < CARDS → (xs : List Pointer) × Along m d s xs
-unfolding Reads
+unfolding Reads any
 along m t d s h =
     let T = table_of d in
     let H = held m t d in
@@ -101,7 +88,7 @@ along m t d s h =
       xs,
       record {
         led = leads T (at T m) xs s (H.1.spelled s k);
-        goals = λ t. ap (λ (ys : List ℕ). has ys t) l ∙ has_turned (map (far_end d) ks) t ∙ has_ends (λ l. eqb (near_end d l) s) (far_end d) t (edges m)
+        goals = λ t. ap (λ (ys : List ℕ). has ys t) l ∙ has_turned (map (far_end d) ks) [] t ∙ has_ends (λ l. eqb (near_end d l) s) (far_end d) t (edges m)
             ∙ arc_any m d s t;
         long = sym (length-map xs (λ (x : Pointer). x.label)) ∙ ap length l ∙ length-reverse (map (far_end d) ks) ∙ length-map ks (far_end d)
             ∙ entries_are (near_end d) s (edges m);
@@ -109,14 +96,11 @@ along m t d s h =
     )
 
 -- how many links there are
-few_given : (o : Option Pointer) (k : Pointer → List Pointer) (f : ℕ) → ((x : Pointer) → length (k x) ≤ f) → length (given o [] (λ x. x ∷ k x)) ≤ suc f
-few_given None k f h = omega arith
-few_given (Some x) k f h = omega (arith, h x)
-
 few_walked : (f : ℕ) (T : ChainTable) (g : ℕ → ℕ) (p : ℕ) → length (walked_by f T g p) ≤ f
 unfolding walked_by
 few_walked zero T g p = omega arith
-few_walked (suc f) T g p = few_given (met_by g p) (λ x. walked_by f T g (node T x.held)) f (λ x. few_walked f T g (node T x.held))
+few_walked (suc f) T g p =
+    given_holds (λ o. Unit) (λ (xs : List Pointer). length xs ≤ suc f) (met_by g p) [] _ tt (omega arith) (λ x u. omega (arith, few_walked f T g (node T x.held)))
 
 pub few_edges : (m : List ℕ) → length (edges m) ≤ ENTRIES
 unfolding edges

@@ -1,9 +1,8 @@
 -- Trails along links: which way they run, how long they are, and that what runs along links from b to a goes round for a link from a to b.
-use Rattle.std.proofs.Common.{◌≡◌, ℕ, zero, suc, ◌+◌, ◌<◌, ◌≤◌, Bool, true, false, ltb, ◌⊎◌, List, [], ◌∷◌, length, refl, ap, ◌∙◌, subst, inl, inr, arith}
+use Rattle.std.proofs.Common.{◌≡◌, ℕ, zero, suc, ◌+◌, ◌<◌, ◌≤◌, Bool, true, ltb, ◌⊎◌, List, [], ◌∷◌, length, refl, ap, ◌∙◌, subst, inl, inr, arith}
 use mathlib.Core.List.{reverse_aux}
-use Rattle.std.proofs.lemmas.Bool.{cases_Bool, cases_eq, eq-eqb, ne_eqb, lt-ltb, ltb-true, and_from, and_parts}
-use Rattle.order.specs.Lists.{every, any, has, place, distinct}
-use Rattle.order.specs.Board.{Board, linked}
+use Rattle.std.proofs.lemmas.Bool.{false_from_ne_true, cases_eq, eq-eqb, ne_eqb, lt-ltb, ltb-true, and_from, and_parts}
+use Rattle.search.proofs.Common.{every, any, has, place, distinct, Board, linked}
 use Rattle.order.specs.Reordering.{follows, last_of, goes_round}
 use Rattle.order.proofs.Filters.{every_has, every_more}
 use Rattle.order.proofs.Climbs.{Fine, link_before}
@@ -38,10 +37,7 @@ module _ (r : Board) (D : ℕ → Bool) where
       let l = link_before r f k j p.0 in
       let e : every (λ i. ltb (place r.row k) (place r.row i)) (j ∷ ks) ≡ true =
       and_from _ _ (lt-ltb _ _ l) (every_more _ _ (λ i s. lt-ltb _ _ (omega (arith, ltb-true _ _ s))) ks ih.0) in
-      let n : has (j ∷ ks) k ≡ false = elim (cases_Bool (has (j ∷ ks) k)) [
-        | inl i ↦ absurd (omega (arith, ltb-true _ _ (every_has (λ i. ltb (place r.row k) (place r.row i)) (j ∷ ks) k e i)))
-        | inr i ↦ i
-      ] in
+      let n = false_from_ne_true (has (j ∷ ks) k) (λ i. omega (arith, ltb-true _ _ (every_has (λ i. ltb (place r.row k) (place r.row i)) (j ∷ ks) k e i))) in
       (e, rw n ih.1)
 
   pub runs_round : Fine r → (a b : ℕ) (xs : List ℕ) → Runs r D b a xs → (goes_round r a b xs ≡ true) × (every D xs ≡ true)
@@ -50,15 +46,6 @@ module _ (r : Board) (D : ℕ → Bool) where
       let g : goes_round r a b (b ∷ w.rest) ≡ true =
       and_from _ _ (and_from _ _ (eq-eqb b b refl) (eq-eqb _ _ w.ends)) (and_from _ _ w.links (follows_climbs f b w.rest w.links).1) in
       (ap (goes_round r a b) w.is ∙ g, ap (every D) w.is ∙ w.all)
-
-module _ (next : ℕ → ℕ) where
-  trail_last : (n e s : ℕ) → s ≡ e → trail next (suc n) e s ≡ s ∷ []
-  unfolding trail
-  trail_last n e s z = rw (eq-eqb s e z)
-
-  trail_more : (n e s : ℕ) → (s ≡ e → ⊥) → trail next (suc n) e s ≡ s ∷ trail next n e (next s)
-  unfolding trail
-  trail_more n e s z = rw (ne_eqb s e z)
 
 -- what holds along a trail towards e: D and M have its slots, and L says how one is linked to the next
 abbrev pub LeadsTo : (D M : ℕ → Bool) (L : ℕ → ℕ → Bool) (next : ℕ → ℕ) (e : ℕ) → Type 0
@@ -70,14 +57,15 @@ module _ (r : Board) (D M : ℕ → Bool) (P next : ℕ → ℕ) (climbs : (s t 
   -- a trail that goes on by links
   pub onward : LeadsTo D M (λ s t. linked r s t) next e → (c n s : ℕ) → ((u : ℕ) → D u ≡ true → P u < c) → D s ≡ true → M s ≡ true → c ≤ n + P s →
       Runs r D s e (trail next n e s)
+  unfolding trail
   onward on c zero s top d m h = absurd (omega (arith, top s d))
   onward on c (suc n) s top d m h = elim (cases_eq s e) [
-    | inl z ↦ rw (trail_last next n e s z) (runs_one r D s e d z)
+    | inl z ↦ rw (eq-eqb s e z) (runs_one r D s e d z)
     | inr z ↦ elim (on s d m) [
       | inl y ↦ absurd (z y)
       | inr y ↦
           let l = climbs s (next s) d y.0 y.2 in
-          rw (trail_more next n e s z)
+          rw (ne_eqb s e z)
           (runs_more r D s (next s) e (trail next n e (next s)) d y.2 (onward on c n (next s) top y.0 y.1 (omega arith)))
     ]
   ]
@@ -86,14 +74,15 @@ module _ (r : Board) (D M : ℕ → Bool) (P next : ℕ → ℕ) (climbs : (s t 
     -- a trail that goes back by links, turned round
     pub turned_round : (n s a : ℕ) (zs : List ℕ) → D s ≡ true → M s ≡ true → P s < n → Runs r D s a (s ∷ zs) →
         Runs r D e a (reverse_aux (trail next n e s) zs)
+    unfolding trail
     turned_round zero s a zs d m h w = absurd (omega arith)
     turned_round (suc n) s a zs d m h w = elim (cases_eq s e) [
-      | inl z ↦ rw (trail_last next n e s z) (subst (λ (k : ℕ). Runs r D k a (s ∷ zs)) z w)
+      | inl z ↦ rw (eq-eqb s e z) (subst (λ (k : ℕ). Runs r D k a (s ∷ zs)) z w)
       | inr z ↦ elim (on s d m) [
         | inl y ↦ absurd (z y)
         | inr y ↦
             let l = climbs (next s) s y.0 d y.2 in
-            rw (trail_more next n e s z)
+            rw (ne_eqb s e z)
             (turned_round n (next s) a (s ∷ zs) y.0 y.1 (omega arith) (runs_more r D (next s) s a (s ∷ zs) y.0 y.2 w))
       ]
     ]

@@ -1,40 +1,32 @@
 -- After a search that came to its end, settling makes the firm row.
-use Rattle.std.proofs.Common.{◌≡◌, ℕ, suc, ◌+◌, ◌-◌, ◌^◌, ◌<◌, ◌≤◌, min, Bool, true, false, ◌&&◌, ◌||◌, leb, List, [], ◌∷◌, ◌++◌, map, length, sym, refl, ap, ◌∙◌, subst, ap₂, arith, length-append}
+use Rattle.std.proofs.Common.{◌≡◌, ℕ, suc, ◌+◌, ◌-◌, ◌^◌, ◌<◌, ◌≤◌, min, Bool, true, false, ◌&&◌, ◌||◌, List, [], ◌∷◌, ◌++◌, map, length, sym, refl, ap, ◌∙◌, subst, ap₂, arith, length-append}
 use Rattle.std.specs.List.{range_with_len}
 use Rattle.std.proofs.lemmas.List.{length-map}
-use Rattle.std.proofs.lemmas.Bool.{and_parts, le-leb, lt-leb, and_left, and_right}
-use Rattle.order.specs.declared.board.TheConstants.{CARDS}
-use Rattle.order.specs.Lists.{filter, has, place}
-use Rattle.order.specs.Board.{Board, leads, keeps}
+use Rattle.std.proofs.lemmas.Bool.{or_left}
+use Rattle.std.proofs.lemmas.Bool.Decides.{nat_tests}
+use Rattle.order.proofs.Places.{has_append}
+use Rattle.search.proofs.Common.{CARDS, filter, has, place, Board, leads, keeps, Column, cell, clear, View, view, Writes, Summed, CellsAlone, SEATS_MOST}
+use Rattle.search.proofs.Common.{COUNT, ENDING, FRESH, FREE, IDS, CHAIN, SLOTS, SEATS, TAKEN, ending, listed, amount, bit_set, in_use, taken, rank, row_of}
+use Rattle.search.proofs.Common.{used, Standing, IsRow, FORE, HIND, CHOSEN, columns, searched, sets, slot_board, slot_on, part, Ready, Parted, Gathered}
+use Rattle.search.proofs.Common.{gathers, both_first, dealt, forgotten, chose, settled}
 use Rattle.order.specs.Reordering.{with_link, firm}
-use Rattle.order.proofs.Filters.{has_filter}
 use Rattle.order.proofs.Parts.{with_part}
 use Rattle.order.proofs.Refilled.{either, refilled}
 use Rattle.order.proofs.Climbs.{Fine, fine_parts}
 use Rattle.order.proofs.Allowed.{Open, sides_apart}
 use Rattle.order.proofs.Firm.{firm_row, firm_row_is, firm_is, firm_keeps}
-use Rattle.memory.specs.declared.column.Column.{Column}
-use Rattle.memory.specs.Columns.{cell}
-use Rattle.memory.specs.Footprints.{clear, View, view, Writes}
-use Rattle.memory.specs.PlaceSetLaws.{Summed, CellsAlone}
 use Rattle.memory.proofs.Alone.{cells_alone}
 use Rattle.memory.proofs.Footprints.{kept, less, after}
-use Rattle.row.specs.declared.layout.TheConstants.{SEATS_MOST, COUNT, ENDING, FRESH, FREE, IDS, CHAIN, SLOTS, SEATS, TAKEN}
-use Rattle.row.specs.Meaning.{count, ending, fresh, free, listed, amount, bit_set, in_use, taken, rank, row_of, used, Standing, IsRow}
 use Rattle.row.proofs.Listing.{amount_more}
 use Rattle.row.proofs.Along.{amount_before}
 use Rattle.row.proofs.Seatings.{one_seat}
-use Rattle.row.proofs.Named.{used_seat, has_slot, place_slot}
+use Rattle.row.proofs.Named.{used_seat, has_slot, place_ranked}
 use Rattle.row.proofs.Present.{few_cards}
 use Rattle.links.proofs.Keeping.{table_kept, edges_kept}
-use Rattle.search.specs.declared.layout.TheConstants.{FORE, HIND, CHOSEN}
-use Rattle.search.specs.Columns.{columns, searched, sets}
-use Rattle.search.specs.Meaning.{slot_board, slot_on, part, Ready, Parted}
-use Rattle.search.specs.Settle.{Gathered, gathers, both_first, dealt, forgotten, chose, settled}
 use Rattle.search.specs.SettleLaws.{Unmarked, Settled, Settles}
 use Rattle.search.proofs.Listed.{Lists, lists_filter, counting_has}
 use Rattle.search.proofs.InThree.{before, inner, behind, in_inner, inner_once, before_out, behind_out, part_end, in_three}
-use Rattle.search.proofs.Mapped.{map_has, map_filter, filter_same, filter_both, filter_fewer}
+use Rattle.search.proofs.Mapped.{map_filter, filter_same, filter_both, filter_fewer}
 use Rattle.search.proofs.Gathering.{Marking, marking_kept, wrote, wrote_append, writes_wrote, wrote_reads, gathers_list}
 use Rattle.search.proofs.Dealing.{put, put_slots, put_places, writes_put, deals}
 use Rattle.search.proofs.Exchanged.{exchanged, exchanged_same}
@@ -78,26 +70,12 @@ module _ (m m₁ : List ℕ) (a b : ℕ) (R : Ready m) (ua : used m a ≡ true) 
   abbrev Q : List ℕ
   Q = inner (taken m) lo n
 
-  ends : suc hi ≤ ending m
-  ends = R.is_row.stands.seated.below hi (used_seat m R.is_row a ua).0
-
-  in_Q : (p : ℕ) → has Q p ≡ true → (lo ≤ p) × (p < lo + n) × (taken m p ≡ true)
-  in_Q p h = in_inner (taken m) lo n p h
-
   -- all taken seats
   abbrev seats : List ℕ
   seats = filter (taken m) (range_with_len 0 (ending m))
 
   seats_are : seats ≡ before (taken m) lo n ++ (Q ++ behind (taken m) lo n (ending m))
-  seats_are = in_three (taken m) lo n (ending m) (let e = ends in omega arith)
-
-  length_before : length (before (taken m) lo n) ≡ rank m lo
-  unfolding amount
-  length_before = refl
-
-  length_seats : length seats ≡ count m
-  unfolding amount
-  length_seats = sym R.is_row.stands.seated.counts
+  seats_are = in_three (taken m) lo n (ending m) (let e = R.is_row.stands.seated.below hi (used_seat m R.is_row a ua).0 in omega arith)
 
   rank_behind : rank m lo + length Q ≡ suc (rank m hi)
   unfolding amount
@@ -108,43 +86,23 @@ module _ (m m₁ : List ℕ) (a b : ℕ) (R : Ready m) (ua : used m a ≡ true) 
       part_end (taken m) lo n ∙ ap (λ (x : ℕ). length (filter (taken m) (range_with_len 0 x))) e ∙ w ∙ rw t (omega arith)
 
   few_Q : length Q ≤ CARDS
+  unfolding amount
   few_Q =
       let c = few_cards m R.is_row in
-      let s = sym length_seats ∙ ap length seats_are ∙ length-append (before (taken m) lo n) (Q ++ behind (taken m) lo n (ending m)) in
+      let s = R.is_row.stands.seated.counts ∙ ap length seats_are ∙ length-append (before (taken m) lo n) (Q ++ behind (taken m) lo n (ending m)) in
       let q = length-append Q (behind (taken m) lo n (ending m)) in
       omega arith
-
-  at_b : place (row_of m) b ≡ rank m lo
-  at_b = place_slot m R.is_row b ub
-
-  at_a : place (row_of m) a ≡ rank m hi
-  at_a = place_slot m R.is_row a ua
 
   -- what is marked: of the taken seats of the part those whose slot passes a test
   abbrev marks : (ℕ → Bool) → ℕ → Bool
   marks T p = taken m p && (part m a b p && T (slot_on m p))
 
-  in_part : (p : ℕ) → lo ≤ p → p < lo + n → part m a b p ≡ true
-  in_part p l u = rw (le-leb lo p l, le-leb p hi (omega arith))
-
-  part_before : (p : ℕ) → p < lo → part m a b p ≡ false
-  part_before p h = and_left (leb lo p) (leb p hi) (lt-leb lo p h)
-
-  part_behind : (p : ℕ) → lo + n ≤ p → part m a b p ≡ false
-  part_behind p h = and_right (leb lo p) (leb p hi) (lt-leb p hi (omega arith))
-
-  marks_in : (T : ℕ → Bool) (p : ℕ) → lo ≤ p → p < lo + n → marks T p ≡ (taken m p && T (slot p))
-  marks_in T p l u = rw (in_part p l u)
-
-  marks_out : (T : ℕ → Bool) (p : ℕ) → part m a b p ≡ false → marks T p ≡ false
-  marks_out T p h = and_right (taken m p) (part m a b p && T (slot_on m p)) (and_left (part m a b p) (T (slot_on m p)) h)
-
   marked_seats : (T : ℕ → Bool) → Lists (marks T) 0 (filter (λ p. T (slot p)) Q)
   marked_seats T =
       subst (Lists (marks T) 0)
-      (filter_same (marks T) (λ p. taken m p && T (slot p)) (range_with_len lo n) (λ p h. let c = counting_has lo n p h in marks_in T p c.0 c.1)
+      (filter_same (marks T) (λ p. taken m p && T (slot p)) (range_with_len lo n) (λ p h. let c = counting_has lo n p h in grind (arith, nat_tests))
       ∙ sym (filter_both (taken m) (λ p. T (slot p)) (range_with_len lo n)))
-      (lists_filter (marks T) 0 lo n (omega arith) (λ p x y. marks_out T p (part_before p y)) (λ p x. marks_out T p (part_behind p x)))
+      (lists_filter (marks T) 0 lo n (omega arith) (λ p x y. grind (arith, nat_tests)) (λ p x. grind (arith, nat_tests)))
 
   abbrev ps : List ℕ
   ps = those slot A B Q apart_so
@@ -154,8 +112,8 @@ module _ (m m₁ : List ℕ) (a b : ℕ) (R : Ready m) (ua : used m a ≡ true) 
 
   rearranged : Rearranges (taken m) slot ps ks
   rearranged =
-      rearranges slot A B Q apart_so (taken m) (λ p h. (in_Q p h).2) (inner_once (taken m) lo n)
-      (λ p q h i e. one_seat R.is_row.stands.seated p q (in_Q p h).2 (in_Q q i).2 e)
+      rearranges slot A B Q apart_so (taken m) (λ p h. (in_inner (taken m) lo n p h).2) (inner_once (taken m) lo n)
+      (λ p q h i e. one_seat R.is_row.stands.seated p q (in_inner (taken m) lo n p h).2 (in_inner (taken m) lo n q i).2 e)
 
   seat_low : (p : ℕ) → has ps p ≡ true → p < SEATS_MOST
   seat_low p h = let e = R.is_row.stands.seated.below p (rearranged.seats_held p h) in omega arith
@@ -172,16 +130,10 @@ module _ (m m₁ : List ℕ) (a b : ℕ) (R : Ready m) (ua : used m a ≡ true) 
 
   ps_listed : Lists (λ p. marks A p || marks B p) 0 ps
   unfolding those
-  ps_listed = lists_as (marked_seats (either B A))
+  ps_listed = subst (λ (T : ℕ → Bool). Lists T 0 (filter (λ p. either B A (slot p)) Q)) (λ t p. same_marks p t) (marked_seats (either B A))
     where
       same_marks : (p : ℕ) → marks (either B A) p ≡ (marks A p || marks B p)
       same_marks p = grind arith
-
-      both : List ℕ
-      both = filter (λ p. either B A (slot p)) Q
-
-      lists_as : Lists (marks (either B A)) 0 both → Lists (λ p. marks A p || marks B p) 0 both
-      lists_as l = subst (λ (T : ℕ → Bool). Lists T 0 both) (λ t p. same_marks p t) l
 
   -- what is gathered, and where it is put
   abbrev qsA : List ℕ
@@ -200,22 +152,15 @@ module _ (m m₁ : List ℕ) (a b : ℕ) (R : Ready m) (ua : used m a ≡ true) 
   fore_marks : Marking m₁ FORE.column (marks B)
   fore_marks = record { summed = P.fore_summed; marks = P.fore_is }
 
-  slots_same : (p : ℕ) → cell m₁ SLOTS p ≡ slot p
-  slots_same p = P.kept.others SLOTS p refl
-
-  small_slots : (T : ℕ → Bool) (s : ℕ) → has (map slot (filter (λ p. T (slot p)) Q)) s ≡ true → s < 2 ^ 64
-  small_slots T s h =
-      let w = map_has slot (filter (λ p. T (slot p)) Q) s h in
-      let i = and_parts (T (slot w.0)) (has Q w.0) (sym (has_filter (λ p. T (slot p)) Q w.0) ∙ w.1) in
-      let l = R.is_row.stands.seated.low w.0 (in_Q w.0 i.1).2 in
-      let e = w.2 in
-      omega arith
-
   abbrev m₂ : List ℕ
   m₂ = wrote m₁ 0 ks
 
   small_ks : (s : ℕ) → has ks s ≡ true → s < 2 ^ 64
   small_ks s h = let l = slot_low s h in omega arith
+
+  small_hind : (s : ℕ) → has (map slot qsA) s ≡ true → s < 2 ^ 64
+  small_hind s h =
+      small_ks s (ap (λ (xs : List ℕ). has xs s) (sym ks_is) ∙ has_append (map slot qsA) (map slot qsB) s ∙ or_left (has (map slot qsA) s) _ h)
 
   wrote_ks : Writes (CHOSEN ∷ []) m₁ m₂
   wrote_ks = writes_wrote m₁ 0 ks small_ks
@@ -227,11 +172,11 @@ module _ (m m₁ : List ℕ) (a b : ℕ) (R : Ready m) (ua : used m a ≡ true) 
       let kB = map slot qsB in
       let w = wrote m₁ 0 kA in
       let few = few_Q in
-      let g₁ = gathers_list HIND.column refl (marks A) slot m₁ qsA 0 hind_marks slots_same (marked_seats A)
+      let g₁ = gathers_list HIND.column refl (marks A) slot m₁ qsA 0 hind_marks (λ p. P.kept.others SLOTS p refl) (marked_seats A)
       (let l = filter_fewer (λ p. A (slot p)) Q in omega arith) in
-      let ww = writes_wrote m₁ 0 kA (small_slots A) in
+      let ww = writes_wrote m₁ 0 kA small_hind in
       let fw = marking_kept (CHOSEN ∷ []) m₁ w FORE.column (marks B) ww refl fore_marks in
-      let g₂ = gathers_list FORE.column refl (marks B) slot w qsB (0 + length qsA) fw (λ p. ww.others SLOTS p refl ∙ slots_same p) (marked_seats B)
+      let g₂ = gathers_list FORE.column refl (marks B) slot w qsB (0 + length qsA) fw (λ p. ww.others SLOTS p refl ∙ P.kept.others SLOTS p refl) (marked_seats B)
       (let l = filter_fewer (λ p. B (slot p)) Q in omega arith) in
       ap (λ (g : Gathered). (gathers g.memory FORE.column g.end).memory) g₁ ∙ ap (λ (g : Gathered). g.memory) g₂
       ∙ sym (wrote_append m₁ 0 (0 + length qsA) kA kB (ap (λ (x : ℕ). 0 + x) (length-map qsA slot))) ∙ ap (wrote m₁ 0) ks_is
@@ -267,7 +212,7 @@ module _ (m m₁ : List ℕ) (a b : ℕ) (R : Ready m) (ua : used m a ≡ true) 
 
   wrote_so : Writes written_columns m m'
   wrote_so =
-      subst (λ (x : List ℕ). Writes written_columns m x) (sym settled_is)
+      rw settled_is
       (after written_columns sets m m₃ (forgotten m₃) refl (writes_forgotten m₃)
       (after written_columns (SLOTS ∷ SEATS ∷ []) m m₂ m₃ refl put_ks
       (after written_columns (CHOSEN ∷ []) m m₁ m₂ refl wrote_ks (less written_columns searched m m₁ refl P.kept))))
@@ -282,7 +227,7 @@ module _ (m m₁ : List ℕ) (a b : ℕ) (R : Ready m) (ua : used m a ≡ true) 
   slots_are : (p : ℕ) → cell m' SLOTS p ≡ exchanged slot ps ks p
   slots_are p =
       cell_put SLOTS p refl ∙ put_slots m₂ ps ks length_m₂ seat_low p
-      ∙ exchanged_same (cell m₂ SLOTS) slot ps ks (λ x. wrote_ks.others SLOTS x refl ∙ slots_same x) p
+      ∙ exchanged_same (cell m₂ SLOTS) slot ps ks (λ x. wrote_ks.others SLOTS x refl ∙ P.kept.others SLOTS x refl) p
 
   seats_same : (s : ℕ) → cell m' SEATS s ≡ exchanged (cell m SEATS) ks ps s
   seats_same s =
@@ -302,39 +247,32 @@ module _ (m m₁ : List ℕ) (a b : ℕ) (R : Ready m) (ua : used m a ≡ true) 
     stands =
         as_before (λ v. Standing (v.at COUNT 0) (min (v.at ENDING 0) SEATS_MOST) (v.at FRESH 0) (v.at FREE 0) (v.at IDS) (v.at CHAIN)
         (cell m' SLOTS) (cell m' SEATS) (bit_set (v.at TAKEN)))
-        (standing_again (count m) (ending m) (fresh m) (free m) ps ks (cell m IDS) (cell m CHAIN) slot (cell m SEATS) (taken m) R.is_row.stands rearranged
-        (cell m' SLOTS) (cell m' SEATS) slots_are seats_same);
+        (standing_again _ _ _ _ ps ks _ _ slot _ (taken m) R.is_row.stands rearranged _ _ slots_are seats_same);
   }
 
-  used_so : (s : ℕ) → used m' s ≡ used m s
-  used_so s =
-      as_before (λ v. in_use (cell m' SLOTS) (cell m' SEATS) (bit_set (v.at TAKEN)) s ≡ used m s)
-      (used_same (count m) (ending m) (fresh m) (free m) ps ks (cell m IDS) (cell m CHAIN) slot (cell m SEATS) (taken m) R.is_row.stands rearranged
-      (cell m' SLOTS) (cell m' SEATS) slots_are seats_same s)
-
-  taken_so : (p : ℕ) → taken m' p ≡ taken m p
-  taken_so p = as_before (λ v. bit_set (v.at TAKEN) p ≡ taken m p) refl
-
   row_so : row_of m' ≡ with_part (refilled B A) (row_of m) (rank m lo) (suc (rank m hi))
-  unfolding listed
+  unfolding listed amount
   row_so =
       as_before (λ v. map (cell m' SLOTS) (filter (bit_set (v.at TAKEN)) (range_with_len 0 (min (v.at ENDING 0) SEATS_MOST)))
       ≡ with_part (refilled B A) (row_of m) (rank m lo) (suc (rank m hi)))
       (ap (λ (g : ℕ → ℕ). map g (filter (taken m) (range_with_len 0 (ending m)))) (λ t p. slots_are p t)
       ∙ ap (map (exchanged slot ps ks)) seats_are
       ∙ row_is slot A B Q apart_so (before (taken m) lo n) (behind (taken m) lo n (ending m)) (rank m lo) (suc (rank m hi)) (inner_once (taken m) lo n)
-      (before_out (taken m) lo n) (behind_out (taken m) lo n (ending m)) length_before rank_behind
+      (before_out (taken m) lo n) (behind_out (taken m) lo n (ending m)) refl rank_behind
       ∙ ap (λ (xs : List ℕ). with_part (refilled B A) (map slot xs) (rank m lo) (suc (rank m hi))) (sym seats_are))
 
   -- that is the firm row
   back_row : place (row_of m) b < place (row_of m) a
   back_row =
-      let x = at_a in let y = at_b in let z = amount_before (taken m) lo hi back (used_seat m R.is_row b ub).0 in
+      let x = place_ranked m R.is_row a ua in
+      let y = place_ranked m R.is_row b ub in
+      let z = amount_before (taken m) lo hi back (used_seat m R.is_row b ub).0 in
       omega arith
 
   firm_so : row_of m' ≡ firm_row r f a b open_so back_row
   firm_so =
-      row_so ∙ ap₂ (λ (x y : ℕ). with_part (refilled B A) (row_of m) x (suc y)) (sym at_b) (sym at_a) ∙ sym (firm_row_is r f a b open_so back_row)
+      row_so ∙ ap₂ (λ (x y : ℕ). with_part (refilled B A) (row_of m) x (suc y)) (sym (place_ranked m R.is_row b ub)) (sym (place_ranked m R.is_row a ua))
+      ∙ sym (firm_row_is r f a b open_so back_row)
 
   summed_m₃ : (c : Column) → clear (CHOSEN ∷ []) c ≡ true → clear (SLOTS ∷ SEATS ∷ []) c ≡ true → Summed m₁ c → Summed m₃ c
   unfolding CellsAlone
@@ -350,8 +288,10 @@ module _ (m m₁ : List ℕ) (a b : ℕ) (R : Ready m) (ua : used m a ≡ true) 
         (forgets_all m₃ (summed_m₃ FORE.column refl refl P.fore_summed) (summed_m₃ HIND.column refl refl P.hind_summed));
     wrote = wrote_so;
     same_edges = edges_kept written_columns refl m m' wrote_so;
-    same_used = used_so;
-    same_taken = taken_so;
+    same_used = λ s.
+        as_before (λ v. in_use (cell m' SLOTS) (cell m' SEATS) (bit_set (v.at TAKEN)) s ≡ used m s)
+        (used_same _ _ _ _ ps ks _ _ slot _ (taken m) R.is_row.stands rearranged _ _ slots_are seats_same s);
+    same_taken = λ p. as_before (λ v. bit_set (v.at TAKEN) p ≡ taken m p) refl;
     is_firm = ap (λ (x : List ℕ). firm r a b x) firm_so ∙ firm_is r f a b open_so back_row;
     keeps_links = ap (λ (x : List ℕ). keeps x (with_link r a b)) firm_so ∙ firm_keeps r f a b open_so back_row;
   }

@@ -1,11 +1,10 @@
 -- Slots and seats after an exchange: a row that stands stands with the slots of some seats in another order. Over any columns.
 use Rattle.std.proofs.Common.{◌≡◌, ℕ, ◌<◌, Bool, true, false, ◌&&◌, eqb, ltb, List, [], ◌∷◌, length, sym, ap, ◌∙◌, subst, inl, inr, arith}
-use Rattle.std.proofs.lemmas.Bool.{cases_Bool, both_ways, lt-ltb, eq-eqb, eqb-true, and_from}
-use Rattle.order.specs.declared.board.TheConstants.{CARDS}
-use Rattle.order.specs.Lists.{has, distinct}
+use Rattle.std.proofs.lemmas.Bool.{cases_Bool, both_ways, false_from_ne_true, lt-ltb, eq-eqb, and_from}
+use Rattle.std.proofs.lemmas.Bool.Decides.{nat_tests}
+use Rattle.search.proofs.Common.{CARDS, has, distinct, in_use, Seating, Stacked, Chains, Freed, Standing}
 use Rattle.order.proofs.Members.{has_head, has_tail}
-use Rattle.row.specs.Meaning.{in_use, Seating, Stacked, Chains, Freed, Standing}
-use Rattle.search.proofs.Exchanged.{exchanged, exchanged_out, exchanged_in, exchanged_back}
+use Rattle.search.proofs.Exchanged.{exchanged, exchanged_out, exchanged_in}
 
 -- ks are the slots at the seats ps, all held, in another order
 pub record Rearranges (held : ℕ → Bool) (slot : ℕ → ℕ) (ps ks : List ℕ) : Type 0 where
@@ -29,18 +28,10 @@ module _ (n e f top : ℕ) (ps ks : List ℕ) (id next slot seat : ℕ → ℕ) 
 
   -- the seats, and the slots, that are exchanged, and those that aren't
   slot_in : (p : ℕ) → has ps p ≡ true → (has ks (slot' p) ≡ true) × (seat' (slot' p) ≡ p)
-  slot_in p h =
-      let i = slot_is p in (
-        ap (has ks) i ∙ exchanged_in slot ps ks p R.as_many h,
-        ap seat' i ∙ seat_is _ ∙ exchanged_back slot seat ps ks p R.as_many R.ps_once R.ks_once h,
-      )
+  slot_in p h = let e = exchanged_in slot seat ps ks p R.as_many R.ps_once R.ks_once h in rw (slot_is p) (e.0, seat_is _ ∙ e.1)
 
   seat_in : (s : ℕ) → has ks s ≡ true → (has ps (seat' s) ≡ true) × (slot' (seat' s) ≡ s)
-  seat_in s h =
-      let i = seat_is s in (
-        ap (has ps) i ∙ exchanged_in seat ks ps s (sym R.as_many) h,
-        ap slot' i ∙ slot_is _ ∙ exchanged_back seat slot ks ps s (sym R.as_many) R.ks_once R.ps_once h,
-      )
+  seat_in s h = let e = exchanged_in seat slot ks ps s (sym R.as_many) R.ks_once R.ps_once h in rw (seat_is s) (e.0, slot_is _ ∙ e.1)
 
   -- a slot that is exchanged was at a seat that is
   slot_was : (s : ℕ) → has ks s ≡ true → (s < CARDS) × (has ps (seat s) ≡ true) × (slot (seat s) ≡ s)
@@ -53,38 +44,19 @@ module _ (n e f top : ℕ) (ps ks : List ℕ) (id next slot seat : ℕ → ℕ) 
   slot_out : (p : ℕ) → held p ≡ true → has ps p ≡ false → (slot' p ≡ slot p) × (seat' (slot p) ≡ p)
   slot_out p l h =
       let u = st.seat_of p l in
-      let z : has ks (slot p) ≡ false = elim (cases_Bool (has ks (slot p))) [
-        | inl i ↦ absurd (both_ways (has ps p) h (ap (has ps) (sym u) ∙ (slot_was (slot p) i).1))
-        | inr i ↦ i
-      ] in
+      let z = false_from_ne_true _ (λ i. both_ways (has ps p) h (ap (has ps) (sym u) ∙ (slot_was (slot p) i).1)) in
       (slot_is p ∙ exchanged_out slot ps ks p h, seat_is (slot p) ∙ exchanged_out seat ks ps (slot p) z ∙ u)
 
   seat_out : (s : ℕ) → has ks s ≡ false → seat' s ≡ seat s
   seat_out s h = seat_is s ∙ exchanged_out seat ks ps s h
 
   -- a slot is in use as it was
-  sits : (ℕ → ℕ) → (ℕ → ℕ) → ℕ → Bool
-  sits r t k = held (t k) && eqb (r (t k)) k
-
   sits_same : (k : ℕ) → (held (seat' k) && eqb (slot' (seat' k)) k) ≡ (held (seat k) && eqb (slot (seat k)) k)
-  sits_same k = elim (cases_Bool (has ks k)) [
-    | inl h ↦
-        let a = seat_in k h in let b = slot_was k h in
-        and_from _ _ (R.seats_held (seat' k) a.0) (eq-eqb _ _ a.1) ∙ sym (and_from _ _ (R.seats_held (seat k) b.1) (eq-eqb _ _ b.2))
-    | inr h ↦ ap (λ (p : ℕ). held p && eqb (slot' p) k) (seat_out k h) ∙ elim (cases_Bool (has ps (seat k))) [
-      | inl i ↦
-          let a : eqb (slot' (seat k)) k ≡ false = unlike (slot' (seat k)) k (slot_in (seat k) i).0 h in
-          let b : eqb (slot (seat k)) k ≡ false = unlike (slot (seat k)) k (R.all (seat k) i) h in
-          rw (a, b)
-      | inr i ↦ ap (λ (x : ℕ). held (seat k) && eqb x k) (slot_is (seat k) ∙ exchanged_out slot ps ks (seat k) i)
-    ]
-  ]
-    where
-      unlike : (x k : ℕ) → has ks x ≡ true → has ks k ≡ false → eqb x k ≡ false
-      unlike x k a b = elim (cases_Bool (eqb x k)) [
-        | inl i ↦ absurd (both_ways (has ks k) b (ap (has ks) (sym (eqb-true x k i)) ∙ a))
-        | inr i ↦ i
-      ]
+  sits_same k =
+      let a = seat_in k in let b = slot_was k in let c = R.seats_held (seat' k) in let d = R.seats_held (seat k) in
+      let e = seat_out k in let f = slot_in (seat k) in let g = R.all (seat k) in
+      let h = slot_is (seat k) in let i = exchanged_out slot ps ks (seat k) in
+      grind (arith, nat_tests)
 
   pub used_same : (k : ℕ) → in_use slot' seat' held k ≡ in_use slot seat held k
   unfolding in_use
@@ -110,12 +82,8 @@ module _ (n e f top : ℕ) (ps ks : List ℕ) (id next slot seat : ℕ → ℕ) 
   -- a free slot isn't exchanged
   free_out : (s : ℕ) → in_use slot seat held s ≡ false → has ks s ≡ false
   unfolding in_use
-  free_out s h = elim (cases_Bool (has ks s)) [
-    | inl i ↦
-        let a = slot_was s i in
-        absurd (both_ways _ h (and_from _ _ (lt-ltb s CARDS a.0) (and_from _ _ (R.seats_held (seat s) a.1) (eq-eqb _ _ a.2))))
-    | inr i ↦ i
-  ]
+  free_out s h = false_from_ne_true _ (λ i.
+      let a = slot_was s i in both_ways _ h (and_from _ _ (lt-ltb s CARDS a.0) (and_from _ _ (R.seats_held (seat s) a.1) (eq-eqb _ _ a.2))))
 
   freed_again : Freed n f top seat' (in_use slot seat held)
   freed_again =

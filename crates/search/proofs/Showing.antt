@@ -1,19 +1,10 @@
 -- What is shown after the two searches met is a way that goes round.
-use Rattle.std.proofs.Common.{◌≡◌, ℕ, ◌-◌, ◌<◌, ◌≤◌, true, List, [], ◌∷◌, ◌++◌, map, length, drop, refl, ap, ◌∙◌, arith}
+use Rattle.std.proofs.Common.{◌≡◌, ℕ, ◌-◌, ◌<◌, ◌≤◌, true, List, ◌++◌, map, length, drop, refl, ap, ◌∙◌, arith}
 use mathlib.Core.List.{reverse_aux-eq}
-use Rattle.order.specs.declared.board.TheConstants.{CARDS}
-use Rattle.order.specs.declared.board.Link.{Link}
-use Rattle.order.specs.Lists.{place}
-use Rattle.order.specs.Board.{◌⟶◌, linked}
+use Rattle.search.proofs.Common.{CARDS, Link, place, ◌⟶◌, linked, cell, marked, IDS, SEATS, row_of, used, VIA, FORE, HIND, slot_board, Ready, Trailed}
 use Rattle.order.proofs.Places.{place_below}
 use Rattle.order.proofs.Climbs.{fine_parts, link_before}
-use Rattle.memory.specs.Columns.{cell}
-use Rattle.memory.specs.PlaceSets.{marked}
-use Rattle.row.specs.declared.layout.TheConstants.{IDS, SEATS}
-use Rattle.row.specs.Meaning.{row_of, used}
 use Rattle.row.proofs.Rows.{seated, length_row, has_is}
-use Rattle.search.specs.declared.layout.TheConstants.{VIA, FORE, HIND}
-use Rattle.search.specs.Meaning.{slot_board, Ready, Trailed}
 use Rattle.search.specs.Way.{trail, way, shown, ShownSo}
 use Rattle.search.specs.WayLaws.{way_of, Round, ShowsWay}
 use Rattle.search.proofs.Joining.{way_few, shown_is}
@@ -57,10 +48,6 @@ module _ (m : List ℕ) (R : Ready m) where
         (runs_more (slot_board m) (used m) x t a on T.x_used T.joined on_runs) in
         rw (reverse_aux-eq back on) at w
 
-pub map_same : (f g : ℕ → ℕ) → ((s : ℕ) → f s ≡ g s) → (xs : List ℕ) → map f xs ≡ map g xs
-map_same f g h [] = refl
-map_same f g h (x ∷ xs) = let ih = map_same f g h xs in let e = h x in cc
-
 pub shows_way : (m m' : List ℕ) (a b x t : ℕ) (out : List ℕ) → Ready m → Trailed m m' a b x t → CARDS ≤ length out → Round m m' a b x t out
 shows_way m m' a b x t out R T h =
     let w = runs_round (slot_board m) (used m) (fine_parts _ R.fine_so) a b (way_of m' a b x t) (way_runs m R m' a b x t T) in
@@ -68,7 +55,7 @@ shows_way m m' a b x t out R T h =
       round = w.0;
       cards = w.1;
       few = way_few (cell m' VIA) CARDS (a ⟶ b) (x ⟶ t);
-      is = shown_is m' (a ⟶ b) (x ⟶ t) out h ∙ map_same (cell m' IDS) (cell m IDS) (λ s. T.kept.others IDS s refl) (way_of m' a b x t);
+      is = shown_is m' (a ⟶ b) (x ⟶ t) out h ∙ ap (λ (f : ℕ → ℕ). map f (way_of m' a b x t)) (λ i s. T.kept.others IDS s refl i);
     }
 
 pub shows_so : (m : List ℕ) (l j : Link) (out : List ℕ) (n : ℕ) (out' : List ℕ) → ShownSo (shown m l j out) out n out' → ShowsWay m l j out n out'

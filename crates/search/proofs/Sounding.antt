@@ -1,18 +1,8 @@
 -- What is so of the memory at each moment of a search, and what a search changes as it goes on.
 use Rattle.std.proofs.Common.{◌≡◌, ℕ, true, ◌⊎◌, List, length, ◌∙◌, inl, inr, arith}
-use Rattle.memory.specs.declared.column.Column.{Column}
-use Rattle.memory.specs.Columns.{cell}
-use Rattle.memory.specs.Footprints.{Writes}
-use Rattle.memory.specs.PlaceSets.{marked}
-use Rattle.memory.specs.PlaceSetLaws.{Summed, CellsAlone}
+use Rattle.search.proofs.Common.{Column, cell, Writes, marked, Summed, CellsAlone, SEATS, used, taken, Side, VIA, searched, marks_of, other, slot_board}
+use Rattle.search.proofs.Common.{slot_on, part}
 use Rattle.memory.proofs.Alone.{cells_alone}
-use Rattle.row.specs.declared.layout.TheConstants.{SEATS}
-use Rattle.row.specs.Meaning.{used, taken}
-use Rattle.search.specs.declared.side.Side.{Side}
-use Rattle.search.specs.declared.layout.TheConstants.{VIA}
-use Rattle.search.specs.Columns.{searched}
-use Rattle.search.specs.Sides.{marks_of, other}
-use Rattle.search.specs.Meaning.{slot_board, slot_on, part}
 use Rattle.search.proofs.Between.{origin, arc, comes, Beyond}
 
 -- at each moment

@@ -1,46 +1,18 @@
 -- A search goes through the chain of one slot: it comes to all that the slot is linked to, or it meets the other search.
-use Rattle.std.proofs.Common.{◌≡◌, ℕ, zero, suc, ◌+◌, ◌<◌, ◌≤◌, Bool, true, false, cond, eqb, List, [], ◌∷◌, length, Some, None, Continue, Break, ControlFlow, sym, refl, ap, ◌∙◌, inl, inr, arith}
-use Rattle.std.proofs.lemmas.Bool.{cases_Bool, both_ways, and_parts, or_cases, or_left, or_right, eq-eqb, eqb-true}
-use Rattle.order.specs.Lists.{any, has}
-use Rattle.order.specs.Board.{◌⟶◌}
-use Rattle.memory.specs.Columns.{cell}
-use Rattle.memory.specs.Footprints.{clear}
-use Rattle.memory.specs.PlaceSets.{marked}
-use Rattle.row.specs.declared.layout.TheConstants.{SEATS}
-use Rattle.row.specs.Meaning.{used}
-use Rattle.chains.specs.declared.cells.Pointer.{Pointer}
+use Rattle.std.proofs.Common.{◌≡◌, ℕ, zero, suc, ◌+◌, ◌<◌, ◌≤◌, Bool, true, false, cond, eqb, List, [], ◌∷◌, length, Some, None, Continue, Break, ControlFlow, sym, refl, ap, ◌∙◌, inl, inr, ⊎_elim, arith}
+use Rattle.std.proofs.lemmas.Bool.Decides.{nat_tests}
+use Rattle.std.proofs.lemmas.Bool.{cases_Bool, both_ways, and_parts, or_cases, or_right, eqb-true}
+use Rattle.search.proofs.Common.{any, has, ◌⟶◌, cell, clear, marked, SEATS, used, Pointer, Side, Fore, Hind, Part, searched, table_of, marks_of, other}
+use Rattle.search.proofs.Common.{sees, entered, turn, Spreading, spreading, part_of, slot_board, part}
 use Rattle.chains.specs.declared.chain_table.ChainTable.{ChainTable}
 use Rattle.chains.specs.Packing.{decoded}
 use Rattle.chains.specs.Tables.{node, at}
 use Rattle.chains.specs.Walks.{met}
 use Rattle.chains.proofs.Walking.{Leads, met_none, met_some}
-use Rattle.search.specs.declared.side.Side.{Side}
-use Rattle.search.specs.declared.side.Side.TheVariants.{Fore, Hind}
-use Rattle.search.specs.declared.hunt.Part.{Part}
-use Rattle.search.specs.Columns.{searched}
-use Rattle.search.specs.Sides.{table_of, marks_of, other}
-use Rattle.search.specs.Hunt.{sees, entered, turn, Spreading, spreading, part_of}
-use Rattle.search.specs.Meaning.{slot_board, part}
 use Rattle.search.proofs.Between.{arc, Setting}
 use Rattle.search.proofs.Reaching.{labels}
 use Rattle.search.proofs.Sounding.{Sound, Grown, grown_on}
 use Rattle.search.proofs.Entering.{enters, entered_seen, seen_is}
-
--- the ways of a turn
-module _ (f : ℕ) (n : List ℕ) (d : Side) (w : Part) (x p : ℕ) where
-  turn_end : met (table_of d) n p ≡ None → spreading (suc f) n d w x p ≡ record { spread = Continue f; memory = n }
-  unfolding spreading turn
-  turn_end e = rw e refl
-
-  turn_seen : (y : Pointer) → met (table_of d) n p ≡ Some y → sees n d w y.label ≡ true
-      → spreading (suc f) n d w x p ≡ record { spread = Break y.label; memory = entered n d w x y.label }
-  unfolding spreading turn
-  turn_seen y e h = rw (e, h) refl
-
-  turn_on : (y : Pointer) → met (table_of d) n p ≡ Some y → sees n d w y.label ≡ false
-      → spreading (suc f) n d w x p ≡ spreading f (entered n d w x y.label) d w x (node (table_of d) y.held)
-  unfolding spreading turn
-  turn_on y e h = rw (e, h) refl
 
 table_clear : (d : Side) → clear searched (table_of d).cells ≡ true
 table_clear Fore = refl
@@ -70,33 +42,18 @@ module _ (m : List ℕ) (a b : ℕ) (S : Setting m a b) (d : Side) (x : ℕ) (ux
     pub grown : Grown d (cell m SEATS x) n y.memory
     pub told : Ends xs y.memory f y.spread
 
+  grown_not : (n : List ℕ) → Grown d (cell m SEATS x) n n
+  grown_not n = record { stays = λ q k. k; same_other = λ q. refl; beyond = λ q k. inl k }
+
   ends_more : (y : Pointer) (ys : List Pointer) (n : List ℕ) (f : ℕ) (o : ControlFlow ℕ ℕ) → (Covered ys n → Covered (y ∷ ys) n) → Ends ys n f o →
       Ends (y ∷ ys) n (suc f) o
   ends_more y ys n f (Continue k) c h = (c h.0, omega (arith, h.1))
   ends_more y ys n f (Break t) c h = h
 
-  grown_not : (n : List ℕ) → Grown d (cell m SEATS x) n n
-  grown_not n = record { stays = λ q k. k; same_other = λ q. refl; beyond = λ q k. inl k }
-
-  has_first : (y : Pointer) (ys : List Pointer) → has (labels (y ∷ ys)) y.label ≡ true
-  unfolding any
-  has_first y ys = or_left (eqb y.label y.label) (has (labels ys) y.label) (eq-eqb y.label y.label refl)
-
-  has_more : (y : Pointer) (ys : List Pointer) (t : ℕ) → has (labels ys) t ≡ true → has (labels (y ∷ ys)) t ≡ true
-  unfolding any
-  has_more y ys t h = or_right (eqb t y.label) (has (labels ys) t) h
-
-  has_none : (t : ℕ) → has (labels []) t ≡ true → ⊥
-  unfolding any
-  has_none t h = both_ways false refl h
-
   cov_more : (y : Pointer) (ys : List Pointer) (n : List ℕ) → (part m a b (cell m SEATS y.label) ≡ true → mine n (cell m SEATS y.label) ≡ true) →
       Covered ys n → Covered (y ∷ ys) n
   unfolding any
-  cov_more y ys n here c t h p = elim (or_cases (eqb t y.label) (has (labels ys) t) h) [
-    | inl e ↦ let z = eqb-true t y.label e in rw z (here (rw z at p))
-    | inr e ↦ c t e p
-  ]
+  cov_more y ys n here c t h p = ⊎_elim (λ e. let z = eqb-true t y.label e in rw z (here (rw z at p))) (λ e. c t e p) (or_cases (eqb t y.label) _ h)
 
   -- the table is as it was
   met_same : (n : List ℕ) → Sound m a b n → (p : ℕ) → met T n p ≡ met T m p
@@ -105,25 +62,22 @@ module _ (m : List ℕ) (a b : ℕ) (S : Setting m a b) (d : Side) (x : ℕ) (ux
 
   pub spreads : (xs : List Pointer) (f : ℕ) (n : List ℕ) (p : ℕ) → Sound m a b n → mine n (cell m SEATS x) ≡ true → Leads T (at T m) p xs →
       ((t : ℕ) → has (labels xs) t ≡ true → arc (slot_board m) d x t ≡ true) → length xs < f → Spreaded n f xs (spreading f n d w x p)
+  unfolding spreading turn any
   spreads xs zero n p s h c g l = absurd (omega arith)
   spreads [] (suc f) n p s h c g l =
-      rw (turn_end f n d w x p (met_same n s p ∙ met_none T m p c)) (record {
-        sound = s;
-        grown = grown_not n;
-        told = (λ t z. absurd (has_none t z), omega arith);
-      })
+      rw (met_same n s p ∙ met_none T m p c) (record { sound = s; grown = grown_not n; told = (λ t z. absurd (both_ways false refl z), omega arith) })
   spreads (y ∷ ys) (suc f) n p s h c g l =
       let e = met_same n s p ∙ met_some T m p y c.0 c.1 in
-      let j = g y.label (has_first y ys) in
+      let j = g y.label (grind (arith, nat_tests)) in
       elim (cases_Bool (sees n d w y.label)) [
         | inl v ↦
             let q = and_parts (part m a b (cell m SEATS y.label)) _ (sym (seen_is m a b S n s d x y.label ux h j) ∙ v) in
-            rw (turn_seen f n d w x p y e v, entered_seen m a b S n s d x y.label ux h j v) (record { sound = s; grown = grown_not n; told = (j, q.1) })
+            rw (e, v, entered_seen m a b S n s d x y.label ux h j v) (record { sound = s; grown = grown_not n; told = (j, q.1) })
         | inr v ↦
             let r = enters m a b S n s d x y.label ux h j v in
             let n' = entered n d w x y.label in
-            let k = spreads ys f n' (node T y.held) r.sound (r.grown.stays (cell m SEATS x) h) c.2 (λ t z. g t (has_more y ys t z)) (omega arith) in
-            rw (turn_on f n d w x p y e v) (record {
+            let k = spreads ys f n' (node T y.held) r.sound (r.grown.stays (cell m SEATS x) h) c.2 (λ t z. g t (or_right (eqb t y.label) _ z)) (omega arith) in
+            rw (e, v) (record {
               sound = k.sound;
               grown = grown_on d (cell m SEATS x) n n' _ r.grown k.grown;
               told = ends_more y ys _ f _ (cov_more y ys _ (λ z. k.grown.stays (cell m SEATS y.label) (r.here z))) k.told;

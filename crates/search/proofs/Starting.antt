@@ -1,32 +1,18 @@
 -- The two searches at their start, and what they find.
 use Rattle.std.proofs.Common.{◌≡◌, ℕ, ◌<◌, ◌≤◌, Bool, true, ◌||◌, eqb, List, Some, Option, sym, refl, ap, ◌∙◌, inl, arith}
 use Rattle.std.proofs.lemmas.Bool.{both_ways, eq-eqb, eqb-true}
-use Rattle.order.specs.declared.board.TheConstants.{CARDS}
-use Rattle.order.specs.declared.board.Link.{Link}
-use Rattle.order.specs.Board.{◌⟶◌}
-use Rattle.memory.specs.declared.place_set.TheConstants.{PLACES}
-use Rattle.memory.specs.Columns.{cell}
-use Rattle.memory.specs.PlaceSets.{marked, added}
-use Rattle.memory.specs.PlaceSetLaws.{Summed}
+use Rattle.search.proofs.Common.{CARDS, Link, ◌⟶◌, PLACES, cell, marked, added, Summed, SLOTS, SEATS, used, edges, Side, Fore, Hind, FORE, HIND, marks_of}
+use Rattle.search.proofs.Common.{other, front, started, meeting, Ready}
 use Rattle.memory.proofs.Adding.{adding}
 use Rattle.memory.proofs.Alone.{writes_added}
-use Rattle.row.specs.declared.layout.TheConstants.{SLOTS, SEATS}
-use Rattle.row.specs.Meaning.{used}
-use Rattle.links.specs.Table.{edges}
-use Rattle.search.specs.declared.side.Side.{Side}
-use Rattle.search.specs.declared.side.Side.TheVariants.{Fore, Hind}
 use Rattle.search.specs.declared.hunt.TheConstants.{FUEL, TURNS}
-use Rattle.search.specs.declared.layout.TheConstants.{FORE, HIND}
-use Rattle.search.specs.Sides.{marks_of, other}
-use Rattle.search.specs.Hunt.{front, started, meeting}
-use Rattle.search.specs.Meaning.{Ready}
 use Rattle.search.specs.HuntLaws.{Found, Meets}
 use Rattle.search.proofs.Touching.{writes_started}
 use Rattle.search.proofs.Potential.{weight_all}
 use Rattle.search.proofs.Between.{origin, comes_self, Setting, used_tells, seat_below, part_from}
 use Rattle.search.proofs.Reaching.{near_end, few_edges}
 use Rattle.search.proofs.Sounding.{Sound, marked_same, summed_same}
-use Rattle.search.proofs.Cursors.{passed, not_passed, few_left}
+use Rattle.search.proofs.Cursors.{passed, not_passed, left_over}
 use Rattle.search.proofs.Advancing.{Placed}
 use Rattle.search.proofs.Bounding.{hunts}
 
@@ -72,13 +58,9 @@ module _ (m : List ℕ) (a b : ℕ) (S : Setting m a b) where
   is_origin : (d : Side) (q : ℕ) → marked n (marks_of d) q ≡ true → q ≡ cell m SEATS (origin a b d)
   is_origin d q h = eqb-true q (cell m SEATS (origin a b d)) (sym (marks_are d q) ∙ h)
 
-  origin_used : (d : Side) → used m (origin a b d) ≡ true
-  origin_used Fore = S.b_used
-  origin_used Hind = S.a_used
-
-  origin_part : (d : Side) → (pb ≤ cell m SEATS (origin a b d)) × (cell m SEATS (origin a b d) ≤ pa)
-  origin_part Fore = (omega arith, omega (arith, S.before))
-  origin_part Hind = (omega (arith, S.before), omega arith)
+  at_origin : (d : Side) → (used m (origin a b d) ≡ true) × (pb ≤ cell m SEATS (origin a b d)) × (cell m SEATS (origin a b d) ≤ pa)
+  at_origin Fore = (S.b_used, omega arith, omega (arith, S.before))
+  at_origin Hind = (S.a_used, omega (arith, S.before), omega arith)
 
   alone : (d : Side) (q : ℕ) → q ≡ cell m SEATS (origin a b d) → q ≡ cell m SEATS (origin a b (other d)) → ⊥
   alone Fore q h k = omega (arith, S.before)
@@ -89,11 +71,11 @@ module _ (m : List ℕ) (a b : ℕ) (S : Setting m a b) where
     frame = writes_started m (a ⟶ b);
     summed = summed_both;
     within = λ d q h.
-        let o = origin_part d in
-        rw (is_origin d q h) ((used_tells m a b S (origin a b d) (origin_used d)).1, part_from m a b S (cell m SEATS (origin a b d)) o.0 o.1);
+        let o = at_origin d in
+        rw (is_origin d q h) ((used_tells m a b S (origin a b d) o.0).1, part_from m a b S (cell m SEATS (origin a b d)) o.1 o.2);
     start = λ d. marks_are d (cell m SEATS (origin a b d)) ∙ eq-eqb (cell m SEATS (origin a b d)) (cell m SEATS (origin a b d)) refl;
-    led = λ d q h. rw (is_origin d q h, (used_tells m a b S (origin a b d) (origin_used d)).2) (comes_self m a b S d (origin a b d));
-    trail = λ d s u h. inl (sym (used_tells m a b S s u).2 ∙ ap (cell m SLOTS) (is_origin d (cell m SEATS s) h) ∙ (used_tells m a b S (origin a b d) (origin_used d)).2);
+    led = λ d q h. rw (is_origin d q h, (used_tells m a b S (origin a b d) (at_origin d).0).2) (comes_self m a b S d (origin a b d));
+    trail = λ d s u h. inl (sym (used_tells m a b S s u).2 ∙ ap (cell m SLOTS) (is_origin d (cell m SEATS s) h) ∙ (used_tells m a b S (origin a b d) (at_origin d).0).2);
     alone = λ d q h k. alone d q (is_origin d q h) (is_origin (other d) q k);
   }
 
@@ -111,8 +93,8 @@ pub meets : (m : List ℕ) (a b : ℕ) → Ready m → used m a ≡ true → use
 unfolding meeting
 meets m a b R ua ub l =
     let S : Setting m a b = record { ready = R; a_used = ua; b_used = ub; before = l } in
-    let x = few_left Fore (cell m SEATS b) (below_b m a b S) in
-    let y = few_left Hind (cell m SEATS a) (below_a m a b S) in
+    let x = left_over Fore (cell m SEATS b) (below_b m a b S) in
+    let y = left_over Hind (cell m SEATS a) (below_a m a b S) in
     hunts m a b S TURNS (started m (a ⟶ b)) (front Fore (cell m SEATS b)) (front Hind (cell m SEATS a)) (sound m a b S) refl
     (placed m a b S Fore) (placed m a b S Hind) (omega arith) (omega arith)
 

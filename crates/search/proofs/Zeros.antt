@@ -2,8 +2,7 @@
 use Rattle.std.proofs.Common.{arith}
 use Rattle.memory.specs.declared.column.TheConstants.{MEMORY}
 use Rattle.memory.proofs.NoPlaces.{zeros_of}
-use Rattle.search.specs.declared.layout.TheConstants.{FORE, HIND}
-use Rattle.search.specs.Columns.{FreshMemory}
+use Rattle.search.proofs.Common.{FORE, HIND, FreshMemory}
 
 pub fresh_memory : FreshMemory
 unfolding FreshMemory

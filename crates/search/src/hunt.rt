@@ -90,7 +90,7 @@ impl Search {
 
     // Comes to all that a slot is linked to, and tells what is left of the fuel; it ends with the slot at which the other search is met, if it is. A garbage
     // memory may go round, so the fuel counts the turns.
-    #[tactic(auto, using(crate::proofs::Hunting::spreads, memory::proofs::Footprints::footprints))]
+    #[tactic(auto, using(memory::proofs::Fuel::one_less, memory::proofs::Footprints::footprints), unfolding(crate::specs::Hunt::spreading))]
     fn spread_from(self, memory: &mut Memory, slot: u64, fuel: u64) -> ControlFlow<u64, u64>
         ensures is { result ≡ (spreading fuel memory.old self.side self.part slot slot).spread }
         ensures after { memory.new ≡ (spreading fuel memory.old self.side self.part slot slot).memory }
@@ -163,7 +163,7 @@ impl Front {
 }
 
 // Two searches in turn, until they meet or neither has anything to go on from. The part stands beside them, since it's one for both.
-#[tactic(auto, using(crate::proofs::Hunting::hunts, memory::proofs::Footprints::footprints))]
+#[tactic(auto, using(crate::proofs::Bounding::hunting, memory::proofs::Footprints::footprints))]
 fn hunt(memory: &mut Memory, part: Part, mut near: Front, mut far: Front) -> Option<Link>
     ensures is { result ≡ (hunted TURNS memory.old part near far).answer }
     ensures after { memory.new ≡ (hunted TURNS memory.old part near far).memory }

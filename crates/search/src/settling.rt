@@ -24,7 +24,7 @@ fn sooner(one: Option<u64>, other: Option<u64>) -> Option<u64>
 
 // Writes the slots at the marked seats, upward, to CHOSEN from the index `from` on; says the next free index. There are no more turns than cards,
 // whatever the memory holds.
-#[tactic(auto, using(crate::proofs::SettleSteps::steps, memory::proofs::Footprints::footprints), unfolding(crate::specs::Settle::gathers))]
+#[tactic(auto, using(crate::proofs::Gathering::steps, memory::proofs::Footprints::footprints), unfolding(crate::specs::Settle::gathers))]
 fn gather(memory: &mut Memory, set: PlaceSet, from: u64) -> u64
     requires { from ≤ CARDS }
     ensures is { result ≡ (gathers memory.old set.column from).end }
@@ -81,7 +81,7 @@ fn seat_chosen(memory: &mut Memory, seat: u64, i: u64)
 }
 
 // Gives the seats of both sets, upward, to the slots of CHOSEN, in no more turns than there are cards.
-#[tactic(auto, using(crate::proofs::SettleSteps::steps, memory::proofs::Footprints::footprints))]
+#[tactic(auto, using(crate::proofs::Gathering::steps, memory::proofs::Footprints::footprints))]
 fn deal(memory: &mut Memory)
     ensures is { memory.new ≡ dealt CARDS memory.old (both_first memory.old) 0 }
     ensures wrote { Writes (SLOTS ∷ SEATS ∷ []) memory.old memory.new }

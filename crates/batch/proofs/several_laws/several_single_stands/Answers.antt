@@ -1,4 +1,4 @@
-use Rattle.batch.proofs.SeveralSingle.{several_single}
+use Rattle.batch.proofs.SeveralRows.{several_single}
 use Rattle.batch.proofs.several_laws.several_single_stands.Goals as goal
 
 pub returns : goal.returns

@@ -10,7 +10,7 @@ use Rattle.keeper.proofs.playing.play_on.Goals as goal
 pub loop-step-preserved : goal.loop-step-preserved
 loop-step-preserved c =
     let l = c.loop-step in
-    sym (goes_on l._step c.loop-step-test.true l.memory l.answer l.out _ _ _ c.step_as-answer.ensures l.shown c.in-Some.so_far
+    sym (goes_on l._step c.loop-step-test.true l.memory l.answer l.out _ _ _ c.take_next-answer.ensures l.shown c.in-Some.so_far
     (sym c.shown_then.ensures ∙ c.in-Some.is)) ∙ l.invariant
 
 -- how it ended, by what the loop keeps

@@ -3,4 +3,5 @@ use Rattle.memory.proofs.Footprints.{less, after}
 use Rattle.row.proofs.cards.leave.Goals as goal
 
 pub returns-clause-wrote : goal.returns-clause-wrote
-returns-clause-wrote c = after _ _ _ _ _ refl c.set.ensures.wrote (after _ _ _ _ _ refl c.free_slot.ensures.wrote (less _ _ _ _ refl c.unmark.ensures.wrote))
+returns-clause-wrote c =
+    after _ _ _ _ _ refl c.set.ensures.wrote (after _ _ _ _ _ refl c.free_slot.ensures.wrote (less _ _ _ _ refl c.unmark.ensures.wrote))

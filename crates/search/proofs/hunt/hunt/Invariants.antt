@@ -1,8 +1,6 @@
 use Rattle.std.proofs.Common.{◌≡◌, ◌-◌}
-use Rattle.memory.specs.Footprints.{Writes}
+use Rattle.search.proofs.Common.{Writes, searched, hunted}
 use Rattle.search.specs.declared.hunt.TheConstants.{TURNS}
-use Rattle.search.specs.Columns.{searched}
-use Rattle.search.specs.Hunt.{hunted}
 use Rattle.search.proofs.hunt.hunt.Given as goal
 
 abbrev pub invariant-loop-turn : goal.invariant-loop-turn

@@ -1,8 +1,5 @@
 use Rattle.std.proofs.Common.{◌≡◌, ◌-◌, [], ◌∷◌}
-use Rattle.order.specs.declared.board.TheConstants.{CARDS}
-use Rattle.memory.specs.Footprints.{Writes}
-use Rattle.row.specs.declared.layout.TheConstants.{SLOTS, SEATS}
-use Rattle.search.specs.Settle.{both_first, dealt}
+use Rattle.search.proofs.Common.{CARDS, Writes, SLOTS, SEATS, both_first, dealt}
 use Rattle.search.proofs.settling.deal.Given as goal
 
 abbrev pub invariant-loop-i : goal.invariant-loop-i

@@ -1,8 +1,5 @@
 use Rattle.std.proofs.Common.{◌≡◌, ◌+◌, ◌-◌, [], ◌∷◌}
-use Rattle.order.specs.declared.board.TheConstants.{CARDS}
-use Rattle.memory.specs.Footprints.{Writes}
-use Rattle.search.specs.declared.layout.TheConstants.{CHOSEN}
-use Rattle.search.specs.Settle.{gathered, gathers}
+use Rattle.search.proofs.Common.{CARDS, Writes, CHOSEN, gathered, gathers}
 use Rattle.search.proofs.settling.gather.Given as goal
 
 abbrev pub invariant-loop-end : goal.invariant-loop-end

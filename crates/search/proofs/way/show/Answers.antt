@@ -1,10 +1,7 @@
 use Rattle.std.proofs.Common.{ℕ, List, ◌++◌, length, drop, sym, ap, ◌∙◌, arith}
 use Rattle.std.proofs.lemmas.Bool.Decides.{nat_tests}
 use Rattle.std.proofs.lemmas.List.{length-map}
-use Rattle.order.specs.declared.board.TheConstants.{CARDS}
-use Rattle.memory.specs.Columns.{cell}
-use Rattle.row.specs.declared.layout.TheConstants.{IDS}
-use Rattle.search.specs.declared.layout.TheConstants.{VIA}
+use Rattle.search.proofs.Common.{CARDS, cell, IDS, VIA}
 use Rattle.search.specs.Way.{way, shown}
 use Rattle.search.proofs.Joining.{way_few, shown_is, fronted}
 use Rattle.search.proofs.way.show.Goals as goal

@@ -1,5 +1,4 @@
-use Rattle.memory.specs.Columns.{cell}
-use Rattle.row.specs.declared.layout.TheConstants.{IDS}
+use Rattle.search.proofs.Common.{cell, IDS}
 use Rattle.search.proofs.Following.{Walked}
 use Rattle.search.proofs.way.show_trail.Given as goal
 

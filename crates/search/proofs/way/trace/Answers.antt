@@ -1,6 +1,5 @@
 use Rattle.std.proofs.Common.{ℕ}
-use Rattle.memory.specs.Columns.{cell}
-use Rattle.search.specs.declared.layout.TheConstants.{VIA}
+use Rattle.search.proofs.Common.{cell, VIA}
 use Rattle.search.specs.Way.{trail, way}
 use Rattle.search.proofs.Joining.{turned_front, joined, joined_length}
 use Rattle.search.proofs.way.trace.Goals as goal

@@ -1,7 +1,5 @@
 use Rattle.std.proofs.Common.{◌≡◌, ◌-◌}
-use Rattle.memory.specs.Footprints.{Writes}
-use Rattle.search.specs.Columns.{searched}
-use Rattle.search.specs.Hunt.{spreading}
+use Rattle.search.proofs.Common.{Writes, searched, spreading}
 use Rattle.search.proofs.hunt.Search.spread_from.Given as goal
 
 abbrev pub invariant-loop-i : goal.invariant-loop-i

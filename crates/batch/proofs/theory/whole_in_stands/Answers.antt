@@ -1,5 +1,0 @@
-use Rattle.batch.proofs.Wholly.{whole_in_own}
-use Rattle.batch.proofs.theory.whole_in_stands.Goals as goal
-
-pub returns : goal.returns
-returns c = whole_in_own

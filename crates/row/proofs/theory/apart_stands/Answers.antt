@@ -1,5 +1,0 @@
-use Rattle.row.proofs.Present.{apart}
-use Rattle.row.proofs.theory.apart_stands.Goals as goal
-
-pub returns : goal.returns
-returns c = apart

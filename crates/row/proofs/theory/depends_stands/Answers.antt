@@ -1,5 +1,0 @@
-use Rattle.row.proofs.Depending.{depends}
-use Rattle.row.proofs.theory.depends_stands.Goals as goal
-
-pub returns : goal.returns
-returns c = depends
