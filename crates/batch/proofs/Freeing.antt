@@ -1,8 +1,10 @@
--- Places are marked as soon as their slots wait for none.
-use Rattle.std.proofs.Common.{◌≡◌, ℕ, zero, suc, ◌+◌, ◌-◌, ◌<◌, ◌≤◌, min, Bool, true, false, ◌&&◌, ◌||◌, eqb, ltb, List, length, sym, refl, ap, ◌∙◌, subst, ap₂, inl, inr, add-one, arith}
-use Rattle.std.proofs.lemmas.Bool.{cases_Bool, cases_eq, cases_lt, eq-eqb, ne_eqb, lt-ltb, le-ltb}
+-- Places are marked as soon as their slots wait for none: at first, and when the links out of a slot that has come are followed, each once.
+use Rattle.std.proofs.Common.{◌≡◌, ℕ, zero, suc, ◌+◌, ◌-◌, ◌<◌, ◌≤◌, min, Bool, true, false, ◌&&◌, ◌||◌, eqb, ltb, List, [], ◌∷◌, length, sym, refl, ap, ◌∙◌, subst, ap₂, inl, inr, add-one, arith}
+use Rattle.std.specs.List.{fold}
+use Rattle.std.proofs.lemmas.Bool.{cases_Bool, cases_eq, cases_lt, eq-eqb, ne_eqb, lt-ltb, le-ltb, and_parts}
 use Rattle.std.proofs.lemmas.Bool.Decides.{nat_tests}
 use Rattle.order.specs.declared.board.TheConstants.{CARDS}
+use Rattle.order.specs.Lists.{every, filter}
 use Rattle.memory.specs.declared.place_set.TheConstants.{PLACES}
 use Rattle.memory.specs.Columns.{cell, written}
 use Rattle.memory.specs.Footprints.{Writes, at_each}
@@ -18,13 +20,13 @@ use Rattle.row.proofs.Named.{used_below}
 use Rattle.links.specs.Table.{edges, IsTable}
 use Rattle.search.specs.declared.layout.TheConstants.{FORE}
 use Rattle.search.specs.Meaning.{slot_on}
-use Rattle.search.proofs.Exchanged.{with_at, at_here, at_else}
 use Rattle.batch.specs.declared.layout.TheConstants.{WAITS, LEAVES}
 use Rattle.batch.specs.Dense.{Dense}
 use Rattle.batch.specs.Renewing.{freed, freed_all, frees, lessened}
 use Rattle.batch.specs.RuleLaws.{within_row}
 use Rattle.batch.proofs.Denseness.{few, slot_at, used_place}
-use Rattle.batch.proofs.Writing.{marking, freed_writes, lessening, lessened_writes, own}
+use Rattle.batch.proofs.Many.{many, many_cons}
+use Rattle.batch.proofs.Writing.{freed_writes, lessened_writes, own}
 
 -- the same marks stand in the same cells
 pub marks_alone : (n k : List ℕ) → length k ≡ length n → ((i : ℕ) → cell k FORE.column i ≡ cell n FORE.column i) → Summed n FORE.column →
@@ -77,65 +79,53 @@ module _ (m : List ℕ) (T : Tidy m) where
   }
 
   -- a slot waits for one fewer
-  module _ (G : ℕ → Bool) (A : ℕ → ℕ) (n : List ℕ) (W : Waiting G A n) (inside : (p : ℕ) → G p ≡ true → p < count m)
-      (t a : ℕ) (u : used m t ≡ true) (g : G (cell m SEATS t) ≡ true) (e : A t ≡ suc a) where
-    abbrev q : ℕ
-    q = cell m SEATS t
-
-    abbrev n₁ : List ℕ
-    n₁ = written n WAITS t (cell n WAITS t - 1)
-
-    at : (q < count m) × (cell m SLOTS q ≡ t)
-    at = used_place m T.dense t u
-
-    t_low : t < CARDS
-    t_low = used_below m T.dense.is_row t u
-
-    now_a : cell n₁ WAITS t ≡ a
-    now_a =
-        cell_same n WAITS t (cell n WAITS t - 1) t_low (omega (arith, t_low, W.wrote.as_long, T.long))
-        ∙ (let z = W.awaits_are t t_low in omega arith)
-
-    q_same : cell n₁ SEATS t ≡ q
-    q_same = cell_apart n WAITS SEATS t t (cell n WAITS t - 1) refl ∙ W.wrote.others SEATS t refl
-
-    q_low : cell n₁ SEATS t < PLACES
-    q_low = omega (arith, q_same, at.0, few m T.dense)
-
-    then : Summed n₁ FORE.column × ((x : ℕ) → marked n₁ FORE.column x ≡ marked n FORE.column x)
-    then =
-        marks_alone n n₁ (length_written n WAITS t (cell n WAITS t - 1)) (λ i. cell_apart n WAITS FORE.column t i (cell n WAITS t - 1) refl) W.summed
-
-    -- the mark of each place then
-    mark_here : (x : ℕ) → x ≡ q → (eqb a 0 || (G x && eqb (A (slot_on m x)) 0)) ≡ (G x && eqb (with_at A t a (slot_on m x)) 0)
-    mark_here x i =
-        let s : slot_on m x ≡ t = ap (slot_on m) i ∙ at.1 in
-        rw (ap G i ∙ g, at_here A t a (slot_on m x) s, ap A s ∙ e) (grind (arith, nat_tests))
-
-    mark_else : (x : ℕ) → (x ≡ q → ⊥) → (G x && eqb (A (slot_on m x)) 0) ≡ (G x && eqb (with_at A t a (slot_on m x)) 0)
-    mark_else x ne = elim (cases_Bool (G x)) [
-      | inl i ↦
-          let back = (slot_at m T.dense x (inside x i)).1 in
-          ap (λ (y : ℕ). G x && eqb y 0) (sym (at_else A t a (slot_on m x) (λ z. ne (sym back ∙ ap (cell m SEATS) z))))
-      | inr i ↦ rw i refl
-    ]
-
-    pub lessens : Waiting G (with_at A t a) (lessened n t)
+  module _ (G : ℕ → Bool) (inside : (p : ℕ) → G p ≡ true → p < count m) where
+    lessens : (A B : ℕ → ℕ) (n : List ℕ) (t : ℕ) → Waiting G A n → used m t ≡ true → G (cell m SEATS t) ≡ true → A t ≡ suc (B t) →
+        ((s : ℕ) → (s ≡ t → ⊥) → A s ≡ B s) → Waiting G B (lessened n t)
     unfolding lessened
-    lessens =
-        let f = freed_marked n₁ t then.0 q_low in
+    lessens A B n t W u g less same =
+        let v = cell n WAITS t - 1 in
+        let n₁ = written n WAITS t v in
+        let at = used_place m T.dense t u in
+        let low = used_below m T.dense.is_row t u in
+        let now : cell n₁ WAITS t ≡ B t =
+        cell_same n WAITS t v low (omega (arith, W.wrote.as_long, T.long)) ∙ (let z = W.awaits_are t low in omega arith) in
+        let q : cell n₁ SEATS t ≡ cell m SEATS t = cell_apart n WAITS SEATS t t v refl ∙ W.wrote.others SEATS t refl in
+        let a = marks_alone n n₁ (length_written n WAITS t v) (λ i. cell_apart n WAITS FORE.column t i v refl) W.summed in
+        let f = freed_marked n₁ t a.0 (omega (arith, q, at.0, few m T.dense)) in
         record {
-          wrote = after own lessening m n (lessened n t) refl (lessened_writes n t) W.wrote;
+          wrote = after own _ m n (lessened n t) refl (lessened_writes n t) W.wrote;
           summed = f.0;
           awaits_are = λ s h. (freed_writes n₁ t).others WAITS s refl ∙ elim (cases_eq s t) [
-            | inl i ↦ ap (cell n₁ WAITS) i ∙ now_a ∙ sym (at_here A t a s i)
-            | inr i ↦ cell_other n WAITS t s (cell n WAITS t - 1) i ∙ W.awaits_are s h ∙ sym (at_else A t a s i)
+            | inl i ↦ ap (cell n₁ WAITS) i ∙ now ∙ ap B (sym i)
+            | inr i ↦ cell_other n WAITS t s v i ∙ W.awaits_are s h ∙ same s i
           ];
-          marks_are = λ x. f.1 x ∙ elim (cases_eq x q) [
-            | inl i ↦ rw (eq-eqb x (cell n₁ SEATS t) (i ∙ sym q_same), now_a, then.1 x, W.marks_are x) (mark_here x i)
-            | inr i ↦ rw (ne_eqb x (cell n₁ SEATS t) (λ z. i (z ∙ q_same)), then.1 x, W.marks_are x) (mark_else x i)
-          ];
+          marks_are = λ x. f.1 x ∙ rw (a.1 x, W.marks_are x) (elim (cases_eq x (cell m SEATS t)) [
+            | inl i ↦
+                let s : slot_on m x ≡ t = ap (slot_on m) i ∙ at.1 in
+                rw (eq-eqb x (cell n₁ SEATS t) (i ∙ sym q), now, ap G i ∙ g, s, less) (grind (arith, nat_tests))
+            | inr i ↦ rw (ne_eqb x (cell n₁ SEATS t) (λ z. i (z ∙ q))) (elim (cases_Bool (G x)) [
+              | inl j ↦
+                  let back = (slot_at m T.dense x (inside x j)).1 in
+                  ap (λ (y : ℕ). G x && eqb y 0) (same (slot_on m x) (λ z. i (sym back ∙ ap (cell m SEATS) z)))
+              | inr j ↦ rw j refl
+            ])
+          ]);
         }
+
+    -- the links into slots are followed, one after the other
+    pub walks : (ts : List ℕ) (B : ℕ → ℕ) (n : List ℕ) → every (λ t. used m t && G (cell m SEATS t)) ts ≡ true →
+        Waiting G (λ s. B s + many (λ t. eqb t s) ts) n → Waiting G B (fold lessened n ts)
+    unfolding every filter
+    walks [] B n h W = waiting_same G G (λ s. B s + many (λ t. eqb t s) []) B n (λ q. refl) (λ s. omega arith) W
+    walks (t ∷ ts) B n h W =
+        let p = and_parts (used m t && G (cell m SEATS t)) _ h in
+        let g = and_parts (used m t) (G (cell m SEATS t)) p.0 in
+        let c = λ (s : ℕ). many_cons (λ u. eqb u s) t ts in
+        walks ts B (lessened n t) p.1
+        (lessens (λ s. B s + many (λ u. eqb u s) (t ∷ ts)) (λ s. B s + many (λ u. eqb u s) ts) n t W g.0 g.1
+        (let e = c t in let z = eq-eqb t t refl in grind arith)
+        (λ s i. let e = c s in let z = ne_eqb t s (λ j. i (sym j)) in grind arith))
 
   -- the places are marked one after another
   abbrev first : ℕ → ℕ → Bool
@@ -145,15 +135,13 @@ module _ (m : List ℕ) (T : Tidy m) where
   frees_one A n i h W =
       let t = slot_on m i in
       let at = slot_at m T.dense i h in
-      let e : cell n SLOTS i ≡ t = W.wrote.others SLOTS i refl in
       let w : cell n SEATS t ≡ i = W.wrote.others SEATS t refl ∙ at.1 in
-      let v : cell n WAITS t ≡ A t = W.awaits_are t at.0 in
       let f = freed_marked n t W.summed (omega (arith, w, h, few m T.dense)) in
-      subst (λ (x : ℕ). Waiting (first (suc i)) A (freed n x)) (sym e) (record {
-        wrote = after own marking m n (freed n t) refl (freed_writes n t) W.wrote;
+      rw (W.wrote.others SLOTS i refl) (record {
+        wrote = after own _ m n (freed n t) refl (freed_writes n t) W.wrote;
         summed = f.0;
         awaits_are = λ s l. (freed_writes n t).others WAITS s refl ∙ W.awaits_are s l;
-        marks_are = λ x. f.1 x ∙ rw (w, v, W.marks_are x) (one_more (λ (p : ℕ). eqb (A (slot_on m p)) 0) i x);
+        marks_are = λ x. f.1 x ∙ rw (w, W.awaits_are t at.0, W.marks_are x) (one_more (λ (p : ℕ). eqb (A (slot_on m p)) 0) i x);
       })
 
   frees_on : (A : ℕ → ℕ) (f : ℕ) (n : List ℕ) (i : ℕ) → i + f ≡ count m → Waiting (first i) A n → Waiting (first (count m)) A (freed_all f n i)
@@ -166,6 +154,5 @@ module _ (m : List ℕ) (T : Tidy m) where
   pub frees_all : (A : ℕ → ℕ) (n : List ℕ) → Waiting (λ p. false) A n → Waiting (first (count m)) A (frees n)
   frees_all A n W =
       let c : count n ≡ count m = W.wrote.others COUNT 0 refl in
-      subst (λ (x : ℕ). Waiting (first (count m)) A (freed_all x n 0))
-      (let z : count m ≡ min (count n) CARDS = omega (arith, few m T.dense) in z)
-      (frees_on A (count m) n 0 (omega arith) (waiting_same (λ p. false) (first 0) A A n (λ p. sym (le-ltb p 0 (omega arith))) (λ s. refl) W))
+      let z : min (count n) CARDS ≡ count m = omega (arith, few m T.dense) in
+      rw z (frees_on A (count m) n 0 (omega arith) (waiting_same (λ p. false) (first 0) A A n (λ p. sym (le-ltb p 0 (omega arith))) (λ s. refl) W))

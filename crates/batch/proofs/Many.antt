@@ -4,7 +4,7 @@ use mathlib.Core.List.{reverse-cons}
 use Rattle.std.proofs.lemmas.Bool.{cases_Bool, and_parts}
 use Rattle.std.proofs.lemmas.Bool.Decides.{nat_tests}
 use Rattle.order.specs.Lists.{any, every, filter, has}
-use Rattle.order.proofs.Filters.{filter_append, every_append}
+use Rattle.order.proofs.Filters.{filter_append}
 
 abbrev pub many : {A : Type 0} → (A → Bool) → List A → ℕ
 many f xs = length (filter f xs)
@@ -64,19 +64,6 @@ many_filter f g (x ∷ xs) =
       | inl e ↦ elim (cases_Bool (f x)) [ inl k ↦ rw (e, k) (ap suc ih) | inr k ↦ rw (e, k) ih ]
       | inr e ↦ rw e ih
     ]
-
--- what is so of each, is so of each of a list turned round, and of values
-pub every_reverse : {A : Type 0} (f : A → Bool) (xs : List A) → every f (reverse xs) ≡ every f xs
-unfolding every
-every_reverse f [] = refl
-every_reverse f (x ∷ xs) =
-    let ih = every_reverse f xs in
-    ap (every f) (reverse-cons x xs) ∙ every_append f (reverse xs) (x ∷ []) ∙ (grind arith)
-
-pub every_map : {A B : Type 0} (f : B → Bool) (g : A → B) (xs : List A) → every f (map g xs) ≡ every (λ x. f (g x)) xs
-unfolding every
-every_map f g [] = refl
-every_map f g (x ∷ xs) = ap (λ (b : Bool). f (g x) && b) (every_map f g xs)
 
 pub has_reverse : (xs : List ℕ) (k : ℕ) → has (reverse xs) k ≡ has xs k
 has_reverse xs k = many_any (eqb k) (reverse xs) ∙ ap (λ (n : ℕ). not (eqb n 0)) (many_reverse (eqb k) xs) ∙ sym (many_any (eqb k) xs)

@@ -1,5 +1,5 @@
 -- A row made anew by the rule is the same row, if its cards have other names.
-use Rattle.std.proofs.Common.{◌≡◌, ℕ, zero, suc, Bool, true, ◌&&◌, eqb, List, [], ◌∷◌, map, length, Some, None, sym, refl, ap, ◌∙◌, inl, inr}
+use Rattle.std.proofs.Common.{◌≡◌, ℕ, zero, suc, Bool, true, ◌&&◌, eqb, List, [], ◌∷◌, map, length, Some, None, refl, ap, ◌∙◌, inl, inr}
 use lib.ListN.{length-map}
 use Rattle.std.proofs.lemmas.Bool.{cases_Bool, and_parts}
 use Rattle.order.specs.declared.board.Link.{Link}
@@ -11,8 +11,7 @@ use Rattle.order.proofs.RenamesTests.{any_map}
 use Rattle.order.proofs.RenamesLists.{eqb_named, has_map, without_map}
 use Rattle.order.proofs.RenamesLinks.{Known}
 use Rattle.batch.specs.Rule.{waits, first_free, without, by_rule, anew}
-use Rattle.batch.proofs.RuleSteps.{first_next}
-use Rattle.batch.proofs.RuleRows.{none_or_some, by_rule_next, by_rule_ends}
+use Rattle.batch.proofs.RuleRows.{first_next, by_rule_holds}
 
 module _ (f : ℕ → ℕ) (D : ℕ → Bool) (tell : (j k : ℕ) → D j ≡ true → D k ≡ true → f j ≡ f k → j ≡ k) (ls : List Link) (known : Known D ls) where
   waits_named : (left : List ℕ) (k : ℕ) → every D left ≡ true → D k ≡ true → waits (map (named f) ls) (map f left) (f k) ≡ waits ls left k
@@ -34,15 +33,9 @@ module _ (f : ℕ → ℕ) (D : ℕ → Bool) (tell : (j k : ℕ) → D j ≡ tr
   by_rule_named zero left h = refl
   by_rule_named (suc n) left h =
       let e = first_free_named left left h h in
-      elim (none_or_some (first_free ls left left)) [
-        | inl o ↦ by_rule_ends (map (named f) ls) n (map f left) (e ∙ rw o) ∙ ap (map f) (sym (by_rule_ends ls n left o))
-        | inr (k, o) ↦
-            let d = every_has D left k h (first_next ls left left k o).there in
-            by_rule_next (map (named f) ls) n (map f left) (f k) (e ∙ rw o)
-            ∙ ap (λ (zs : List ℕ). f k ∷ by_rule n (map (named f) ls) zs) (sym (without_map f D tell k left d h))
-            ∙ ap (λ (zs : List ℕ). f k ∷ zs) (by_rule_named n (without left k) (every_filter_more D _ D (λ _ i _. i) left h))
-            ∙ ap (map f) (sym (by_rule_next ls n left k o))
-      ]
+      by_rule_holds ls n left (λ (xs : List ℕ). by_rule (suc n) (map (named f) ls) (map f left) ≡ map f xs) (λ o. rw (e, o) refl) (λ k o.
+      let d = every_has D left k h (first_next ls left left k o).there in
+      rw (e, o) (ap (λ (zs : List ℕ). f k ∷ zs) (rw (← without_map f D tell k left d h) (by_rule_named n (without left k) (every_filter_more D _ D (λ _ i _. i) left h)))))
 
 pub anew_named : (f : ℕ → ℕ) (D : ℕ → Bool) (ls : List Link) (row : List ℕ) → Naming f D (record { row = row; links = ls }) →
     anew (map (named f) ls) (map f row) ≡ map f (anew ls row)

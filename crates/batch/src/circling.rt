@@ -16,7 +16,7 @@ use row::SLOTS;
 use search::show_trail;
 
 // Notes of the first n slots in SPARE that they have come.
-#[tactic(auto, using(crate::proofs::PlaceByPlace::turns), unfolding(crate::specs::Circling::flagged))]
+#[tactic(auto, using(crate::proofs::LoopSteps::places), unfolding(crate::specs::Circling::flagged))]
 fn flag(memory: &mut Memory, n: u64)
     ensures { memory.new ≡ flagged n memory.old 0 }
 {
@@ -46,7 +46,7 @@ fn note(memory: &mut Memory, pair: u64)
 }
 
 // Notes for each slot that a link of the table goes into one that such a link comes out of and that hasn't come, if there is one.
-#[tactic(auto, using(crate::proofs::LinkByLink::turns))]
+#[tactic(auto, using(crate::proofs::LoopSteps::links))]
 fn note_all(memory: &mut Memory)
     ensures { memory.new ≡ notes memory.old }
 {

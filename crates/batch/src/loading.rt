@@ -10,7 +10,7 @@ use order::{LINKS, Link, Refusal};
 use row::comes;
 
 // The cards come, one after the other, up to the first that is refused.
-#[tactic(auto, using(crate::proofs::LoadSteps::cards))]
+#[tactic(auto, using(crate::proofs::LoopSteps::cards))]
 fn bring_cards(memory: &mut Memory, row: &[u64]) -> Result<(), Refusal>
     ensures { LoadedSo (cards_come memory.old row.now) result memory.new }
 {

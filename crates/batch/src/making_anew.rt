@@ -61,7 +61,7 @@ fn make(memory: &mut Memory, row: &[u64], links: &[Link], out: &mut [u64]) -> Re
 
 // Makes the row anew by the rule, with these links: the row by the rule is written to the front of `out`, or a circle, if the links go round. Whatever
 // stood in the memory is gone then.
-#[tactic(auto, using(crate::proofs::MakesAnew::makes_anew, crate::proofs::MakingSteps::makings), unfolding(crate::specs::MakingAnew::made_anew))]
+#[tactic(auto, using(crate::proofs::MakesAnew::makes_anew, crate::proofs::MakesAnew::makings), unfolding(crate::specs::MakingAnew::made_anew))]
 pub fn make_anew(
     memory: &mut [u64],
     row: &[u64],

@@ -45,7 +45,7 @@ fn count(memory: &mut Memory, pair: u64)
 }
 
 // Counts all links, the newest first. Each turn writes to the memory, which an iterator over the links would hold lent.
-#[tactic(auto, using(crate::proofs::LinkByLink::turns))]
+#[tactic(auto, using(crate::proofs::LoopSteps::links))]
 fn count_all(memory: &mut Memory)
     ensures { memory.new ≡ counts memory.old }
 {
@@ -71,7 +71,7 @@ fn free(memory: &mut Memory, slot: u64)
 }
 
 // Marks the places of all slots that wait for none.
-#[tactic(auto, using(crate::proofs::PlaceByPlace::turns), unfolding(crate::specs::Renewing::freed_all))]
+#[tactic(auto, using(crate::proofs::LoopSteps::places), unfolding(crate::specs::Renewing::freed_all))]
 fn free_all(memory: &mut Memory)
     ensures { memory.new ≡ frees memory.old }
 {
@@ -103,7 +103,7 @@ fn lessen(memory: &mut Memory, slot: u64)
 }
 
 // What each of the links out of a slot goes into waits for one fewer. There are no more turns than links were counted, whatever the memory holds.
-#[tactic(auto, using(crate::proofs::LinkByLink::turns))]
+#[tactic(auto, using(crate::proofs::LoopSteps::links))]
 fn release(memory: &mut Memory, slot: u64, turns: u64)
     ensures { memory.new ≡ released turns memory.old slot }
 {
@@ -139,7 +139,7 @@ fn draw(memory: &mut Memory, place: u64, i: u64)
 }
 
 // Again and again the slot at the first mark comes, and is written to SPARE; says how many come.
-#[tactic(auto, using(crate::proofs::RenewSteps::renews), unfolding(crate::specs::Renewing::drawn_all))]
+#[tactic(auto, using(crate::proofs::LoopSteps::renews), unfolding(crate::specs::Renewing::drawn_all))]
 fn draw_all(memory: &mut Memory) -> u64
     ensures is { result ≡ (drawn_all memory.old).came }
     ensures below { result ≤ CARDS }

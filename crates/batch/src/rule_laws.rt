@@ -26,7 +26,7 @@ pub fn ruled_cards_stands() -> u8
 }
 
 // It keeps all links.
-#[tactic(auto, using(crate::proofs::RuleKeeps::ruled_keeps))]
+#[tactic(auto, using(crate::proofs::RuleRows::ruled_keeps))]
 pub fn ruled_keeps_stands() -> u8
     ensures { RuledKeeps }
 {

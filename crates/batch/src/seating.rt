@@ -46,7 +46,7 @@ impl Span {
     }
 
     // Gives the places to the slots that were put aside for them.
-    #[tactic(auto, using(crate::proofs::PlaceByPlace::turns), unfolding(crate::specs::Seating::reseated))]
+    #[tactic(auto, using(crate::proofs::LoopSteps::places), unfolding(crate::specs::Seating::reseated))]
     pub(crate) fn reseat(self, memory: &mut Memory)
         ensures is { memory.new ≡ reseated (min self.high CARDS - self.low) memory.old self.low }
         ensures wrote { Writes (SLOTS ∷ SEATS ∷ []) memory.old memory.new }

@@ -2,7 +2,7 @@ use Rattle.std.proofs.Common.{ℕ, ◌+◌, ◌-◌, List, sym, ap, ◌∙◌, a
 use Rattle.std.specs.declared.ops.Range.{Range}
 use Rattle.memory.specs.Columns.{written}
 use Rattle.batch.specs.Arranging.{filled}
-use Rattle.batch.proofs.PlaceByPlace.{each_go, each_end}
+use Rattle.batch.proofs.LoopSteps.{each_go, each_end}
 use Rattle.batch.proofs.listing.fill.Goals as goal
 
 pub loop-place-init : goal.loop-place-init

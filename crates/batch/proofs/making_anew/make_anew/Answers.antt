@@ -1,5 +1,5 @@
 use Rattle.std.proofs.Common.{rules, arith}
-use Rattle.batch.proofs.MakingSteps.{made_long}
+use Rattle.batch.proofs.MakesAnew.{made_long}
 use Rattle.batch.proofs.making_anew.make_anew.Goals as goal
 
 pub returns-clause-made : goal.returns-clause-made

@@ -1,4 +1,4 @@
-use Rattle.batch.proofs.RuleKeeps.{kept_is_ruled}
+use Rattle.batch.proofs.RuleRounds.{kept_is_ruled}
 use Rattle.batch.proofs.rule_laws.kept_is_ruled_stands.Goals as goal
 
 pub returns : goal.returns

@@ -1,7 +1,7 @@
 use Rattle.std.proofs.Common.{◌≡◌, ◌-◌, ℕ, min, sym, ap, ◌∙◌, arith}
 use Rattle.order.specs.declared.board.TheConstants.{CARDS}
 use Rattle.batch.specs.Seating.{reseated}
-use Rattle.batch.proofs.PlaceByPlace.{each_end}
+use Rattle.batch.proofs.LoopSteps.{each_end}
 use Rattle.batch.proofs.Writing.{reseated_wrote}
 use Rattle.batch.proofs.seating.Span.reseat.Goals as goal
 
