@@ -26,14 +26,13 @@ module _ (name : ℕ → ℕ) (ks was : List ℕ) (k : ℕ) (l : k ≡ length ks
     abbrev part : List ℕ
     part = take (length mid - k) (drop k mid)
 
-    behind : drop k mid ≡ drop k was
-    behind = ap (drop k) e ∙ drop_at (map name (reverse ks)) (drop k was) k (length-map (reverse ks) name ∙ length-reverse ks ∙ sym l)
-
-    before : take k mid ≡ map name (reverse ks)
-    before = ap (take k) e ∙ take_at (map name (reverse ks)) (drop k was) k (length-map (reverse ks) name ∙ length-reverse ks ∙ sym l)
+    in_two : (drop k mid ≡ drop k was) × (take k mid ≡ map name (reverse ks))
+    in_two =
+        let n : length (map name (reverse ks)) ≡ k = length-map (reverse ks) name ∙ length-reverse ks ∙ sym l in
+        (ap (drop k) e ∙ drop_at (map name (reverse ks)) (drop k was) k n, ap (take k) e ∙ take_at (map name (reverse ks)) (drop k was) k n)
 
     part_rest : part ≡ drop k was
-    part_rest = take_all (length mid - k) (drop k mid) (omega (arith, length-drop k mid)) ∙ behind
+    part_rest = take_all (length mid - k) (drop k mid) (omega (arith, length-drop k mid)) ∙ in_two.0
 
     fuel : length part ≡ length was - length ks
     fuel = ap length part_rest ∙ length-drop k was ∙ ap (λ n. length was - n) l
@@ -51,7 +50,7 @@ module _ (name : ℕ → ℕ) (ks was : List ℕ) (k : ℕ) (l : k ≡ length ks
         x ∙ ap (λ n. map name (rest n) ++ drop j part) fuel ∙ ap (λ (p : List ℕ). map name js ++ drop j p) part_rest
         ∙ ap (λ (p : List ℕ). map name js ++ p) (drop-drop j k was) in
         let b : drop (length mid - k) (drop k mid) ≡ [] = drop_all (length mid - k) (drop k mid) (omega (arith, length-drop k mid)) in
-        ap (λ (p : List ℕ). p ++ (last ++ drop (length mid - k) (drop k mid))) before
+        ap (λ (p : List ℕ). p ++ (last ++ drop (length mid - k) (drop k mid))) in_two.1
         ∙ ap (λ (p : List ℕ). map name (reverse ks) ++ (last ++ p)) b
         ∙ ap (λ (p : List ℕ). map name (reverse ks) ++ p) (append-nil last ∙ a)
         ∙ sym (ap (λ (p : List ℕ). p ++ drop (k + j) was) (map-append name (reverse ks) js)
