@@ -3,13 +3,13 @@ use Rattle.std.proofs.Common.{◌≡◌, ℕ, ◌<◌, Bool, true, false, cond, 
 use Rattle.std.proofs.lemmas.Bool.{both_ways, cases_eq, cond_both}
 use Rattle.std.proofs.lemmas.Bool.Decides.{nat_tests}
 use Rattle.search.proofs.Common.{◌⟶◌, PLACES, cell, written, apart, Writes, clear, marked, fresh, added, Summed, SLOTS, SEATS, used, Side, Fore, Hind, VIA}
-use Rattle.search.proofs.Common.{searched, marks_of, other, sees, entered, part_of, slot_board, slot_on, part}
+use Rattle.search.proofs.Common.{searched, marks_of, other, sees, entered, part_of, slot_board, part}
 use Rattle.memory.proofs.Cells.{length_written, cell_same, cell_other, cell_apart}
 use Rattle.memory.proofs.Footprints.{put}
 use Rattle.memory.proofs.Adding.{adding}
 use Rattle.memory.proofs.Alone.{writes_added}
 use Rattle.search.proofs.Touching.{writes_marked}
-use Rattle.search.proofs.Between.{origin, arc, comes, Setting, used_tells, arc_tells, comes_on, part_tells, Sound, Grown, marked_same, summed_same}
+use Rattle.search.proofs.Between.{origin, arc, Setting, used_tells, arc_tells, comes_on, part_tells, Sound, Grown, marked_same, summed_same}
 
 -- what is so of one search and of the other is so of both
 pub each_side : (P : Side → Type 0) (d : Side) → P d → P (other d) → (e : Side) → P e

@@ -1,6 +1,5 @@
 pub mod Common
 pub mod Zeros
-pub mod Following
 pub mod Joining
 pub mod Rounds
 pub mod Showing

@@ -18,7 +18,7 @@ use Rattle.links.specs.Pairs.{unpair}
 use Rattle.links.specs.Laws.{Gives}
 use Rattle.links.proofs.Giving.{gives}
 use Rattle.search.proofs.Between.{arc}
-use Rattle.search.proofs.Potential.{entries, entries_are}
+use Rattle.search.proofs.Potential.{entries}
 
 -- the end of a link by which a search finds it, and the one that it leads to
 abbrev pub near_end : Side → Link → ℕ
@@ -88,8 +88,7 @@ along m t d s h =
         led = leads T (at T m) xs s (H.1.spelled s k);
         goals = λ t. ap (λ (ys : List ℕ). has ys t) l ∙ has_turned (map (far_end d) ks) [] t ∙ has_ends (λ l. eqb (near_end d l) s) (far_end d) t (edges m)
             ∙ arc_any m d s t;
-        long = sym (length-map xs (λ (x : Pointer). x.label)) ∙ ap length l ∙ length-reverse (map (far_end d) ks) ∙ length-map ks (far_end d)
-            ∙ entries_are (near_end d) s (edges m);
+        long = sym (length-map xs (λ (x : Pointer). x.label)) ∙ ap length l ∙ length-reverse (map (far_end d) ks) ∙ length-map ks (far_end d);
       },
     )
 
