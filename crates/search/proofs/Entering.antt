@@ -1,8 +1,8 @@
 -- A search comes to one slot more.
-use Rattle.std.proofs.Common.{◌≡◌, ℕ, ◌<◌, Bool, true, false, cond, not, ◌&&◌, ◌||◌, eqb, ◌⊎◌, List, [], ◌∷◌, refl, sym, ap, ◌∙◌, inl, inr, ⊎_elim, arith}
+use Rattle.std.proofs.Common.{◌≡◌, ℕ, Bool, true, false, cond, not, ◌&&◌, ◌||◌, eqb, ◌⊎◌, List, [], ◌∷◌, refl, sym, ap, ◌∙◌, inl, inr, ⊎_elim, arith}
 use Rattle.std.proofs.lemmas.Bool.{both_ways, cases_eq, cond_both}
 use Rattle.std.proofs.lemmas.Bool.Decides.{nat_tests}
-use Rattle.search.proofs.Common.{◌⟶◌, PLACES, cell, written, apart, Writes, clear, marked, fresh, added, Summed, SLOTS, SEATS, used, Side, Fore, Hind, VIA}
+use Rattle.search.proofs.Common.{◌⟶◌, cell, written, apart, Writes, clear, marked, fresh, added, Summed, SLOTS, SEATS, used, Side, Fore, Hind, VIA}
 use Rattle.search.proofs.Common.{searched, marks_of, other, sees, entered, part_of, slot_board, part}
 use Rattle.memory.proofs.Cells.{length_written, cell_same, cell_other, cell_apart}
 use Rattle.memory.proofs.Footprints.{put}
@@ -49,9 +49,6 @@ module _ (m : List ℕ) (a b : ℕ) (S : Setting m a b) (n : List ℕ) (s : Soun
 
   -- the place is new to both searches
   module _ (p : part m a b q ≡ true) (free : marked n (marks_of d) q ≡ false) (unseen : marked n (marks_of (other d)) q ≡ false) where
-    below : q < PLACES
-    below = (part_tells m a b S q p).2
-
     cells_other : (j : ℕ) → cell n' (marks_of (other d)) j ≡ cell n (marks_of (other d)) j
     cells_other j =
         cell_apart n₁ VIA (marks_of (other d)) t j x (marks_apart (other d)).2
@@ -61,7 +58,7 @@ module _ (m : List ℕ) (a b : ℕ) (S : Setting m a b) (n : List ℕ) (s : Soun
     cells_own j = cell_apart n₁ VIA (marks_of d) t j x (marks_apart d).2
 
     own : (z : ℕ) → marked n' (marks_of d) z ≡ (eqb z q || marked n (marks_of d) z)
-    own z = marked_same n₁ n' (marks_of d) cells_own z ∙ (adding n (marks_of d) q (s.summed d) below).2 z
+    own z = marked_same n₁ n' (marks_of d) cells_own z ∙ (adding n (marks_of d) q (s.summed d) (part_tells m a b S q p).2).2 z
 
     not_own : (z : ℕ) → marked n' (marks_of (other d)) z ≡ marked n (marks_of (other d)) z
     not_own z = marked_same n n' (marks_of (other d)) cells_other z
@@ -99,7 +96,7 @@ module _ (m : List ℕ) (a b : ℕ) (S : Setting m a b) (n : List ℕ) (s : Soun
     summed_new : (e : Side) → Summed n' (marks_of e)
     summed_new =
         each_side (λ e. Summed n' (marks_of e)) d
-        (summed_same n₁ n' (marks_of d) cells_own (length_written n₁ VIA t x) (adding n (marks_of d) q (s.summed d) below).0)
+        (summed_same n₁ n' (marks_of d) cells_own (length_written n₁ VIA t x) (adding n (marks_of d) q (s.summed d) (part_tells m a b S q p).2).0)
         (summed_same n n' (marks_of (other d)) cells_other (length_written n₁ VIA t x ∙ (writes_added (marks_of d) n q).as_long) (s.summed (other d)))
 
     trail_new : (e : Side) (u : ℕ) → used m u ≡ true → marked n' (marks_of e) (cell m SEATS u) ≡ true → (u ≡ origin a b e) ⊎

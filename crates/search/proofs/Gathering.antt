@@ -6,8 +6,9 @@ use Rattle.order.proofs.Members.{has_head, has_tail}
 use Rattle.memory.proofs.Footprints.{same, on, put_one}
 use Rattle.memory.proofs.Cells.{length_written, cell_same, cell_other, cell_apart}
 use Rattle.memory.proofs.Alone.{cells_alone}
-use Rattle.memory.proofs.Upward.{going_up, first_of_all}
-use Rattle.search.proofs.Listed.{From, Lists, from_after, from_least, from_list, from_sooner}
+use Rattle.memory.proofs.Nearest.{Up, changed}
+use Rattle.memory.proofs.Upward.{next_up_nearest, first_of_all}
+use Rattle.search.proofs.Listed.{From, Lists, from_least, from_list, from_sooner}
 use Rattle.memory.proofs.Fuel.{fuel_step, fuel_end}
 use Rattle.std.proofs.lemmas.Bool.Decides.{nat_tests}
 use Rattle.row.specs.Moves.{put_at}
@@ -36,7 +37,9 @@ marking_written m c d i v T a k = marking_same m (written m d i v) c T (length_w
 
 module _ (m : List ℕ) (c : Column) (T : ℕ → Bool) (k : Marking m c T) where
   pub from_next : (p : ℕ) → From T (p + 1) (next_up m c p)
-  from_next p = from_after (marked m c) T p (next_up m c p) k.marks (going_up m c p k.summed)
+  from_next p =
+      changed Up (marked m c) T (λ r. p < r) (λ r. p + 1 ≤ r) (next_up m c p) (λ r l h. (omega arith, sym (k.marks r) ∙ h))
+      (λ r l h. sym (k.marks r) ∙ h (omega arith)) (next_up_nearest m c k.summed p)
 
   pub from_first : From T 0 (first_mark m c)
   from_first = from_least (marked m c) T (first_mark m c) k.marks (first_of_all m c k.summed)

@@ -2,7 +2,7 @@
 use Rattle.std.proofs.Common.{◌≡◌, ℕ, zero, suc, ◌+◌, ◌<◌, ◌≤◌, Bool, true, false, ◌||◌, eqb, List, [], ◌∷◌, Some, None, Option, sym, refl, ap, ◌∙◌, inl, inr, arith, ◌-◌, ◌++◌, length, ap₂, length-append}
 use Rattle.std.specs.List.{range_with_len}
 use Rattle.std.proofs.lemmas.Bool.{cases_Bool, cases_eq, cases_lt, eqb-true, both_ways, and_parts, or_left, or_right, or_from, false_from_ne_true}
-use Rattle.search.proofs.Common.{any, filter, has, distinct, JustAfter, Least, sooner}
+use Rattle.search.proofs.Common.{any, filter, has, distinct, Least, sooner}
 use Rattle.order.proofs.Filters.{has_filter, distinct_filter, filter_append}
 use Rattle.memory.proofs.Nearest.{Up, Nearest, one}
 use Rattle.order.specs.Lists.{filter, has, distinct}
@@ -19,10 +19,6 @@ Lists f p (q ∷ qs) = ((p ≤ q) × (f q ≡ true) × ((r : ℕ) → p ≤ r �
 abbrev pub head_of : List ℕ → Option ℕ
 head_of [] = None
 head_of (q ∷ qs) = Some q
-
-pub from_after : (f g : ℕ → Bool) (p : ℕ) (o : Option ℕ) → ((r : ℕ) → f r ≡ g r) → JustAfter f p o → From g (p + 1) o
-from_after f g p None e a = λ r l. sym (e r) ∙ a r (omega arith)
-from_after f g p (Some q) e a = (let l = a.0 in omega arith, sym (e q) ∙ a.1, λ r l h. sym (e r) ∙ a.2 r (omega arith) h)
 
 pub from_least : (f g : ℕ → Bool) (o : Option ℕ) → ((r : ℕ) → f r ≡ g r) → Least f o → From g 0 o
 from_least f g None e a = λ r l. sym (e r) ∙ a r
