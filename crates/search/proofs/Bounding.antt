@@ -5,12 +5,10 @@ use Rattle.search.proofs.Common.{Link, ◌⟶◌, given, marked, Side, Fore, Hin
 use Rattle.search.proofs.Common.{part_of, Parted}
 use Rattle.memory.proofs.Fuel.{fuel_step, fuel_end}
 use Rattle.search.specs.HuntLaws.{Found}
-use Rattle.search.proofs.Between.{Setting, part_tells}
-use Rattle.search.proofs.Sounding.{Sound}
+use Rattle.search.proofs.Between.{Setting, part_tells, Sound}
 use Rattle.search.proofs.Entering.{each_side}
 use Rattle.search.proofs.Parting.{Closed, parted}
-use Rattle.search.proofs.Cursors.{passed, ahead_of, left_over}
-use Rattle.search.proofs.Advancing.{Placed, Fronted, placed_same, Tells, goes}
+use Rattle.search.proofs.Advancing.{passed, ahead_of, left_over, Placed, Fronted, placed_same, Tells, goes}
 
 module _ (m : List ℕ) (a b : ℕ) (S : Setting m a b) where
   abbrev w : Part
@@ -18,27 +16,22 @@ module _ (m : List ℕ) (a b : ℕ) (S : Setting m a b) where
 
   -- neither has anything to go on from
   module _ (n : List ℕ) (s : Sound m a b n) (c e : Front) (o : e.side ≡ other c.side) (hc : Fronted m a b n c) (he : Fronted m a b n e)
-      (ic : c.cursor ≡ None) (ie : e.cursor ≡ None) where
-    passed_none : (d : Side) (o : Option ℕ) (q : ℕ) → o ≡ None → passed d o q ≡ true
-    passed_none d None q i = refl
-    passed_none d (Some p) q i = absurd (let z : ◌≡◌ {A = ℕ} 0 1 = cc in omega arith)
-
+      (pc : (q : ℕ) → passed c.side c.cursor q ≡ true) (pe : (q : ℕ) → passed e.side e.cursor q ≡ true) where
     closed_both : (d : Side) (q : ℕ) → marked n (marks_of d) q ≡ true → Closed m a b d n q
     closed_both =
-        each_side (λ d. (q : ℕ) → marked n (marks_of d) q ≡ true → Closed m a b d n q) c.side (λ q h. hc.closed q h (passed_none c.side c.cursor q ic))
-        (rw (← o) (λ q h. he.closed q h (passed_none e.side e.cursor q ie)))
+        each_side (λ d. (q : ℕ) → marked n (marks_of d) q ≡ true → Closed m a b d n q) c.side (λ q h. hc.closed q h (pc q))
+        (rw (← o) (λ q h. he.closed q h (pe q)))
 
     both_done : Parted m n a b
     both_done = parted m a b S n s closed_both
 
-  none_left : (n : List ℕ) (s : Sound m a b n) (d : Side) (o : Option ℕ) (f : ℕ) → Placed m a b n d o f → ahead_of d o ≡ 0 → o ≡ None
-  none_left n s d None f h z = refl
-  none_left n s d (Some p) f h z =
-      absurd (omega (arith, left_over d p (part_tells m a b S p (s.within d p (h.there p refl)).1).2))
+  none_left : (n : List ℕ) (s : Sound m a b n) (d : Side) (o : Option ℕ) (f : ℕ) → Placed m a b n d o f → ahead_of d o ≡ 0 → (q : ℕ) → passed d o q ≡ true
+  none_left n s d None f h z q = refl
+  none_left n s d (Some p) f h z q = absurd (omega (arith, left_over d p (part_tells m a b S p (s.within d p (h.there p refl)).1).2))
 
-  idle_none : (o : Option ℕ) → given o true (λ p. false) ≡ true → o ≡ None
-  idle_none None h = refl
-  idle_none (Some p) h = absurd (both_ways true (sym h) refl)
+  idle_none : (d : Side) (o : Option ℕ) → given o true (λ p. false) ≡ true → (q : ℕ) → passed d o q ≡ true
+  idle_none d None h q = refl
+  idle_none d (Some p) h q = absurd (both_ways true (sym h) refl)
 
   abbrev Right : Met → Type 0
   Right x = Found m x.memory a b x.answer
@@ -67,7 +60,7 @@ module _ (m : List ℕ) (a b : ℕ) (S : Setting m a b) where
       cond_both (idle c && idle e) (met_with None n) (hunt_on x.advance x.memory rest) Right
       (λ i.
       let p = and_parts (idle c) (idle e) i in
-      both_done n s c e o hc he (idle_none c.cursor p.0) (idle_none e.cursor p.1))
+      both_done n s c e o hc he (idle_none c.side c.cursor p.0) (idle_none e.side e.cursor p.1))
       (λ _. by_answer x.memory c x.advance rest G.told (λ k t.
       hunts f x.memory e k G.sound (two_sides c.side e.side k.side o t.0)
       (placed_same m a b n x.memory e.side e.cursor e.fuel (rw o G.same_other) he) t.1

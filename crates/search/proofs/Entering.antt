@@ -1,16 +1,15 @@
 -- A search comes to one slot more.
-use Rattle.std.proofs.Common.{◌≡◌, ℕ, ◌<◌, Bool, true, false, cond, not, ◌&&◌, ◌||◌, eqb, ◌⊎◌, List, [], ◌∷◌, refl, sym, ap, ◌∙◌, inl, inr, ⊎_elim, arith}
+use Rattle.std.proofs.Common.{◌≡◌, ℕ, Bool, true, false, cond, not, ◌&&◌, ◌||◌, eqb, ◌⊎◌, List, [], ◌∷◌, refl, sym, ap, ◌∙◌, inl, inr, ⊎_elim, arith}
 use Rattle.std.proofs.lemmas.Bool.{both_ways, cases_eq, cond_both}
 use Rattle.std.proofs.lemmas.Bool.Decides.{nat_tests}
-use Rattle.search.proofs.Common.{◌⟶◌, PLACES, cell, written, apart, Writes, clear, marked, fresh, added, Summed, SLOTS, SEATS, used, Side, Fore, Hind, VIA}
-use Rattle.search.proofs.Common.{searched, marks_of, other, sees, entered, part_of, slot_board, slot_on, part}
+use Rattle.search.proofs.Common.{◌⟶◌, cell, written, apart, Writes, clear, marked, fresh, added, Summed, SLOTS, SEATS, used, Side, Fore, Hind, VIA}
+use Rattle.search.proofs.Common.{searched, marks_of, other, sees, entered, part_of, slot_board, part}
 use Rattle.memory.proofs.Cells.{length_written, cell_same, cell_other, cell_apart}
 use Rattle.memory.proofs.Footprints.{put}
 use Rattle.memory.proofs.Adding.{adding}
 use Rattle.memory.proofs.Alone.{writes_added}
 use Rattle.search.proofs.Touching.{writes_marked}
-use Rattle.search.proofs.Between.{origin, arc, comes, Setting, used_tells, arc_tells, comes_on, part_tells}
-use Rattle.search.proofs.Sounding.{Sound, Grown, marked_same, summed_same}
+use Rattle.search.proofs.Between.{origin, arc, Setting, used_tells, arc_tells, comes_on, part_tells, Sound, Grown, marked_same, summed_same}
 
 -- what is so of one search and of the other is so of both
 pub each_side : (P : Side → Type 0) (d : Side) → P d → P (other d) → (e : Side) → P e
@@ -50,9 +49,6 @@ module _ (m : List ℕ) (a b : ℕ) (S : Setting m a b) (n : List ℕ) (s : Soun
 
   -- the place is new to both searches
   module _ (p : part m a b q ≡ true) (free : marked n (marks_of d) q ≡ false) (unseen : marked n (marks_of (other d)) q ≡ false) where
-    below : q < PLACES
-    below = (part_tells m a b S q p).2
-
     cells_other : (j : ℕ) → cell n' (marks_of (other d)) j ≡ cell n (marks_of (other d)) j
     cells_other j =
         cell_apart n₁ VIA (marks_of (other d)) t j x (marks_apart (other d)).2
@@ -62,7 +58,7 @@ module _ (m : List ℕ) (a b : ℕ) (S : Setting m a b) (n : List ℕ) (s : Soun
     cells_own j = cell_apart n₁ VIA (marks_of d) t j x (marks_apart d).2
 
     own : (z : ℕ) → marked n' (marks_of d) z ≡ (eqb z q || marked n (marks_of d) z)
-    own z = marked_same n₁ n' (marks_of d) cells_own z ∙ (adding n (marks_of d) q (s.summed d) below).2 z
+    own z = marked_same n₁ n' (marks_of d) cells_own z ∙ (adding n (marks_of d) q (s.summed d) (part_tells m a b S q p).2).2 z
 
     not_own : (z : ℕ) → marked n' (marks_of (other d)) z ≡ marked n (marks_of (other d)) z
     not_own z = marked_same n n' (marks_of (other d)) cells_other z
@@ -100,13 +96,8 @@ module _ (m : List ℕ) (a b : ℕ) (S : Setting m a b) (n : List ℕ) (s : Soun
     summed_new : (e : Side) → Summed n' (marks_of e)
     summed_new =
         each_side (λ e. Summed n' (marks_of e)) d
-        (summed_same n₁ n' (marks_of d) cells_own (length_written n₁ VIA t x) (adding n (marks_of d) q (s.summed d) below).0)
+        (summed_same n₁ n' (marks_of d) cells_own (length_written n₁ VIA t x) (adding n (marks_of d) q (s.summed d) (part_tells m a b S q p).2).0)
         (summed_same n n' (marks_of (other d)) cells_other (length_written n₁ VIA t x ∙ (writes_added (marks_of d) n q).as_long) (s.summed (other d)))
-
-    led_new : (e : Side) (z : ℕ) → (e ≡ d) × (z ≡ q) → comes (slot_board m) e (origin a b e) (slot_on m z) ≡ true
-    led_new e z i =
-        let y = rw (used_tells m a b S x ux).2 at (s.led d (cell m SEATS x) mx) in
-        rw (i.0, i.1, (used_tells m a b S t used_t).2) (comes_on m a b S d (origin a b d) x t y k)
 
     trail_new : (e : Side) (u : ℕ) → used m u ≡ true → marked n' (marks_of e) (cell m SEATS u) ≡ true → (u ≡ origin a b e) ⊎
         ((used m (cell n' VIA u) ≡ true) × (marked n' (marks_of e) (cell m SEATS (cell n' VIA u)) ≡ true) × (arc (slot_board m) e (cell n' VIA u) u ≡ true))
@@ -127,7 +118,9 @@ module _ (m : List ℕ) (a b : ℕ) (S : Setting m a b) (n : List ℕ) (s : Soun
         summed = summed_new;
         within = λ e z h. ⊎_elim (λ o. s.within e z o) (λ i. rw i.1 ((used_tells m a b S t used_t).1, p)) (new e z h);
         start = λ e. old e (cell m SEATS (origin a b e)) (s.start e);
-        led = λ e z h. ⊎_elim (λ o. s.led e z o) (λ i. led_new e z i) (new e z h);
+        led = λ e z h. ⊎_elim (λ o. s.led e z o) (λ i.
+          let y = rw (used_tells m a b S x ux).2 at (s.led d (cell m SEATS x) mx) in
+          rw (i.0, i.1, (used_tells m a b S t used_t).2) (comes_on m a b S d (origin a b d) x t y k)) (new e z h);
         trail = trail_new;
         alone = never_both (λ e z. marked n' (marks_of e) z ≡ true) d alone_new;
       };
@@ -153,16 +146,13 @@ module _ (m : List ℕ) (a b : ℕ) (S : Setting m a b) (n : List ℕ) (s : Soun
   abbrev u : Bool
   u = marked n (marks_of (other d)) q
 
-  seat_same : cell n SEATS t ≡ q
-  seat_same = s.frame.others SEATS t refl
-
   entered_is : entered n d (part_of m (a ⟶ b)) x t ≡ cond (w q && (not u && fresh n (marks_of d) q)) n' n
   unfolding entered
-  entered_is = rw seat_same refl
+  entered_is = rw (s.frame.others SEATS t refl)
 
   pub seen_is : sees n d (part_of m (a ⟶ b)) t ≡ (w q && u)
   unfolding sees
-  seen_is = rw seat_same refl
+  seen_is = rw (s.frame.others SEATS t refl)
 
   pub entered_seen : sees n d (part_of m (a ⟶ b)) t ≡ true → entered n d (part_of m (a ⟶ b)) x t ≡ n
   entered_seen h = let e = sym seen_is ∙ h in let i = entered_is in grind arith

@@ -1,12 +1,71 @@
--- A way is two trails: the first is turned round where it stands, and the second written behind it.
-use Rattle.std.proofs.Common.{◌≡◌, ℕ, ◌+◌, ◌-◌, ◌≤◌, List, [], ◌∷◌, ◌++◌, map, reverse, length, take, drop, sym, refl, ap, ◌∙◌, arith}
+-- A trail is written by a loop. A way is two trails: the first is turned round where it stands, and the second written behind it.
+use Rattle.std.proofs.Common.{◌≡◌, ℕ, ◌+◌, ◌-◌, ◌≤◌, List, [], ◌∷◌, ◌++◌, map, reverse, length, take, drop, sym, refl, ap, ◌∙◌, arith, zero, suc, ◌<◌, cond, eqb, get_or, set, length-drop}
 use mathlib.Core.List.{reverse_aux}
-use Rattle.std.proofs.lemmas.Bool.{le-leb}
+use Rattle.std.proofs.lemmas.Bool.{le-leb, eq-eqb, ne_eqb}
 use borrow.Rule.Slice.PartMut.{put_mid, post_of}
-use Rattle.std.proofs.lemmas.List.{append-nil, append_assoc, map-append, length-map, length-reverse, length-append, length-drop, take_at, take_all, drop_at, drop_all, drop-drop, drop-append-le, length-take-le, take-append-drop}
+use Rattle.std.proofs.lemmas.List.{append-nil, append_assoc, map-append, length-map, length-reverse, length-append, length-drop, take_at, take_all}
+use Rattle.std.proofs.lemmas.List.{drop_at, drop_all, drop-drop, drop-append-le, length-take-le, take-append-drop, drop_more}
 use Rattle.search.proofs.Common.{CARDS, Link, cell, IDS, VIA}
 use Rattle.search.specs.Way.{trail, way, shown}
-use Rattle.search.proofs.Following.{trail_few}
+use Rattle.memory.proofs.Fuel.{fuel_step, fuel_end}
+use Rattle.order.proofs.Fronts.{front_more, front_all}
+
+pub trail_few : (next : ℕ → ℕ) (n e s : ℕ) → length (trail next n e s) ≤ n
+unfolding trail
+trail_few next zero e s = omega arith
+trail_few next (suc n) e s = let ih = trail_few next n e (next s) in grind arith
+
+-- the whole of a trail, once its cards are written
+written_all : (name : ℕ → ℕ) (ks was out : List ℕ) (n : ℕ) → length ks ≡ n → out ≡ map name (take n ks) ++ drop n was → out ≡ map name ks ++ drop n was
+written_all name ks was out n l f =
+    front_all name ks was out n (omega arith) (omega arith) f ∙ ap (λ (k : ℕ). map name ks ++ drop k was) l
+
+-- i cards of the trail are written, and the loop stands at a slot: the rest of the trail is the one from there
+pub record Walked (next name : ℕ → ℕ) (e s : ℕ) (was out : List ℕ) (i at : ℕ) : Type 0 where
+  pub rest : drop i (trail next (length was) e s) ≡ trail next (length was - i) e at
+  pub within : i ≤ length (trail next (length was) e s)
+  pub front : out ≡ map name (take i (trail next (length was) e s)) ++ drop i was
+
+module _ (next name : ℕ → ℕ) (e s : ℕ) (was : List ℕ) where
+  abbrev ks : List ℕ
+  ks = trail next (length was) e s
+
+  module _ (out : List ℕ) (i at : ℕ) (w : Walked next name e s was out i at) where
+    here : i < length was →
+        (i < length ks) × (at ≡ get_or ks i 0) × (drop (i + 1) ks ≡ cond (eqb at e) [] (trail next (length was - (i + 1)) e (next at)))
+    unfolding trail
+    here h =
+        let b = w.rest ∙ fuel_step (λ n. trail next n e at) (length was) i h in
+        let l : i < length ks = omega (arith, ap length b, length-drop i ks) in
+        let a = drop_more ks i 0 l in
+        (l, (cc), (cc))
+
+    -- v is the card of the slot, and b the slot that follows
+    written_one : (v : ℕ) → i < length was → v ≡ name at → set out i v ≡ map name (take (i + 1) ks) ++ drop (i + 1) was
+    written_one v h x =
+        ap (set out i) (x ∙ ap name (here h).1) ∙ front_more name ks was out i (here h).0 (trail_few next (length was) e s) w.front
+
+    pub walked_more : (v b : ℕ) → i < length was → (at ≡ e → ⊥) → v ≡ name at → b ≡ next at → Walked next name e s was (set out i v) (i + 1) b
+    walked_more v b h n x y =
+        record {
+          rest = (rw (ne_eqb at e n) at (here h).2) ∙ ap (trail next (length was - (i + 1)) e) (sym y);
+          within = omega (arith, (here h).0);
+          front = written_one v h x;
+        }
+
+    pub walked_last : (v : ℕ) → i < length was → at ≡ e → v ≡ name at → (i + 1 ≡ length ks) × (set out i v ≡ map name ks ++ drop (i + 1) was)
+    walked_last v h y x =
+        let z : drop (i + 1) ks ≡ [] = rw (eq-eqb at e y) at (here h).2 in
+        let l : length ks ≡ i + 1 = omega (arith, (here h).0, ap length z, length-drop (i + 1) ks) in
+        (sym l, written_all name ks was (set out i v) (i + 1) l (written_one v h x))
+
+    pub walked_end : (n : ℕ) → length was ≤ i → i ≤ length was → n ≡ length was → (n ≡ length ks) × (out ≡ map name ks ++ drop n was)
+    unfolding trail
+    walked_end n h k x =
+        let z : drop i ks ≡ [] = w.rest ∙ fuel_end (λ n. trail next n e at) (length was) i h in
+        let l : length ks ≡ i = omega (arith, w.within, ap length z, length-drop i ks) in
+        let y : i ≡ n = omega arith in
+        (sym (l ∙ y), written_all name ks was out i l w.front ∙ ap (λ (k : ℕ). map name ks ++ drop k was) y)
 
 map_turned : (f : ℕ → ℕ) (xs ys : List ℕ) → map f (reverse_aux xs ys) ≡ reverse_aux (map f xs) (map f ys)
 map_turned f [] ys = refl
@@ -26,14 +85,13 @@ module _ (name : ℕ → ℕ) (ks was : List ℕ) (k : ℕ) (l : k ≡ length ks
     abbrev part : List ℕ
     part = take (length mid - k) (drop k mid)
 
-    behind : drop k mid ≡ drop k was
-    behind = ap (drop k) e ∙ drop_at (map name (reverse ks)) (drop k was) k (length-map (reverse ks) name ∙ length-reverse ks ∙ sym l)
-
-    before : take k mid ≡ map name (reverse ks)
-    before = ap (take k) e ∙ take_at (map name (reverse ks)) (drop k was) k (length-map (reverse ks) name ∙ length-reverse ks ∙ sym l)
+    in_two : (drop k mid ≡ drop k was) × (take k mid ≡ map name (reverse ks))
+    in_two =
+        let n : length (map name (reverse ks)) ≡ k = length-map (reverse ks) name ∙ length-reverse ks ∙ sym l in
+        (ap (drop k) e ∙ drop_at (map name (reverse ks)) (drop k was) k n, ap (take k) e ∙ take_at (map name (reverse ks)) (drop k was) k n)
 
     part_rest : part ≡ drop k was
-    part_rest = take_all (length mid - k) (drop k mid) (omega (arith, length-drop k mid)) ∙ behind
+    part_rest = take_all (length mid - k) (drop k mid) (omega (arith, length-drop k mid)) ∙ in_two.0
 
     fuel : length part ≡ length was - length ks
     fuel = ap length part_rest ∙ length-drop k was ∙ ap (λ n. length was - n) l
@@ -51,7 +109,7 @@ module _ (name : ℕ → ℕ) (ks was : List ℕ) (k : ℕ) (l : k ≡ length ks
         x ∙ ap (λ n. map name (rest n) ++ drop j part) fuel ∙ ap (λ (p : List ℕ). map name js ++ drop j p) part_rest
         ∙ ap (λ (p : List ℕ). map name js ++ p) (drop-drop j k was) in
         let b : drop (length mid - k) (drop k mid) ≡ [] = drop_all (length mid - k) (drop k mid) (omega (arith, length-drop k mid)) in
-        ap (λ (p : List ℕ). p ++ (last ++ drop (length mid - k) (drop k mid))) before
+        ap (λ (p : List ℕ). p ++ (last ++ drop (length mid - k) (drop k mid))) in_two.1
         ∙ ap (λ (p : List ℕ). map name (reverse ks) ++ (last ++ p)) b
         ∙ ap (λ (p : List ℕ). map name (reverse ks) ++ p) (append-nil last ∙ a)
         ∙ sym (ap (λ (p : List ℕ). p ++ drop (k + j) was) (map-append name (reverse ks) js)

@@ -1,15 +1,12 @@
 pub mod Common
 pub mod Zeros
-pub mod Following
 pub mod Joining
 pub mod Rounds
 pub mod Showing
 pub mod Between
 pub mod Potential
 pub mod Reaching
-pub mod Cursors
 pub mod Touching
-pub mod Sounding
 pub mod Entering
 pub mod Spreads
 pub mod Parting
@@ -18,11 +15,9 @@ pub mod Bounding
 pub mod Starting
 pub mod Listed
 pub mod Mapped
-pub mod InThree
 pub mod Exchanged
 pub mod Seating
 pub mod Gathering
-pub mod Dealing
 pub mod Reordered
 pub mod SettleFrames
 pub mod RowSettled

@@ -1,10 +1,11 @@
--- The numbers that pass a test, from one on, as a list: going from each to the next goes through that list.
-use Rattle.std.proofs.Common.{◌≡◌, ℕ, zero, suc, ◌+◌, ◌<◌, ◌≤◌, Bool, true, false, ◌||◌, eqb, List, [], ◌∷◌, Some, None, Option, sym, refl, ap, ◌∙◌, inl, inr, arith}
+-- The numbers that pass a test, from one on, as a list: going from each to the next goes through that list; and such a list in three.
+use Rattle.std.proofs.Common.{◌≡◌, ℕ, zero, suc, ◌+◌, ◌<◌, ◌≤◌, Bool, true, false, ◌||◌, eqb, List, [], ◌∷◌, Some, None, Option, sym, refl, ap, ◌∙◌, inl, inr, arith, ◌-◌, ◌++◌, length, ap₂, length-append}
 use Rattle.std.specs.List.{range_with_len}
-use Rattle.std.proofs.lemmas.Bool.{cases_Bool, cases_eq, cases_lt, eqb-true, both_ways, and_parts, or_left, or_right, or_from}
-use Rattle.search.proofs.Common.{any, filter, has, distinct, JustAfter, Least, sooner}
-use Rattle.order.proofs.Filters.{has_filter, distinct_filter}
+use Rattle.std.proofs.lemmas.Bool.{cases_Bool, cases_eq, cases_lt, eqb-true, both_ways, and_parts, or_left, or_right, or_from, false_from_ne_true}
+use Rattle.search.proofs.Common.{any, filter, has, distinct, Least, sooner}
+use Rattle.order.proofs.Filters.{has_filter, distinct_filter, filter_append}
 use Rattle.memory.proofs.Nearest.{Up, Nearest, one}
+use Rattle.order.specs.Lists.{filter, has, distinct}
 
 -- o is the first number from p on that passes f, or there is none
 abbrev pub From : (ℕ → Bool) → ℕ → Option ℕ → Type 0
@@ -18,10 +19,6 @@ Lists f p (q ∷ qs) = ((p ≤ q) × (f q ≡ true) × ((r : ℕ) → p ≤ r �
 abbrev pub head_of : List ℕ → Option ℕ
 head_of [] = None
 head_of (q ∷ qs) = Some q
-
-pub from_after : (f g : ℕ → Bool) (p : ℕ) (o : Option ℕ) → ((r : ℕ) → f r ≡ g r) → JustAfter f p o → From g (p + 1) o
-from_after f g p None e a = λ r l. sym (e r) ∙ a r (omega arith)
-from_after f g p (Some q) e a = (let l = a.0 in omega arith, sym (e q) ∙ a.1, λ r l h. sym (e r) ∙ a.2 r (omega arith) h)
 
 pub from_least : (f g : ℕ → Bool) (o : Option ℕ) → ((r : ℕ) → f r ≡ g r) → Least f o → From g 0 o
 from_least f g None e a = λ r l. sym (e r) ∙ a r
@@ -81,3 +78,53 @@ counting_once a (suc n) = elim (cases_Bool (has (range_with_len (a + 1) n) a)) [
 
 pub filter_once : (f : ℕ → Bool) (a n : ℕ) → distinct (filter f (range_with_len a n)) ≡ true
 filter_once f a n = distinct_filter f (range_with_len a n) (counting_once a n)
+
+-- those below an end, in three: those before a part, those in it, and those behind it
+range_split : (a n k : ℕ) → range_with_len a (n + k) ≡ range_with_len a n ++ range_with_len (a + n) k
+range_split a zero k = ap₂ range_with_len (omega arith) (omega arith)
+range_split a (suc n) k =
+    let e : suc n + k ≡ suc (n + k) = omega arith in
+    let i : a + 1 + n ≡ a + suc n = omega arith in
+    ap (range_with_len a) e ∙ ap (λ (xs : List ℕ). a ∷ xs) (rw i at (range_split (a + 1) n k))
+
+-- the part has n numbers, from lo on
+module _ (f : ℕ → Bool) (lo n : ℕ) where
+  abbrev pub before : List ℕ
+  before = filter f (range_with_len 0 lo)
+
+  abbrev pub inner : List ℕ
+  inner = filter f (range_with_len lo n)
+
+  abbrev pub behind : ℕ → List ℕ
+  behind e = filter f (range_with_len (lo + n) (e - (lo + n)))
+
+  pub in_inner : (p : ℕ) → has inner p ≡ true → (lo ≤ p) × (p < lo + n) × (f p ≡ true)
+  in_inner p h = in_filter f lo n p h
+
+  pub inner_once : distinct inner ≡ true
+  inner_once = filter_once f lo n
+
+  pub before_out : (p : ℕ) → has before p ≡ true → has inner p ≡ false
+  before_out p h = false_from_ne_true _ (λ e. let c = in_filter f 0 lo p h in let d = in_inner p e in omega arith)
+
+  pub behind_out : (e p : ℕ) → has (behind e) p ≡ true → has inner p ≡ false
+  behind_out e p h = false_from_ne_true _ (λ i. let c = in_filter f (lo + n) (e - (lo + n)) p h in let d = in_inner p i in omega arith)
+
+  both_parts : before ++ inner ≡ filter f (range_with_len 0 (lo + n))
+  both_parts =
+      let z : lo ≡ 0 + lo = omega arith in
+      sym (filter_append f (range_with_len 0 lo) (range_with_len lo n))
+      ∙ ap (filter f) (ap (λ (x : ℕ). range_with_len 0 lo ++ range_with_len x n) z ∙ sym (range_split 0 lo n))
+
+  -- as many as pass below the part's end
+  pub part_end : length before + length inner ≡ length (filter f (range_with_len 0 (lo + n)))
+  part_end = sym (length-append before inner) ∙ ap length both_parts
+
+  pub in_three : (e : ℕ) → lo + n ≤ e → filter f (range_with_len 0 e) ≡ before ++ (inner ++ behind e)
+  in_three e l =
+      let k = e - (lo + n) in
+      let i : e ≡ lo + (n + k) = omega arith in
+      let z : 0 + lo ≡ lo = omega arith in
+      ap (filter f) (ap (range_with_len 0) i ∙ range_split 0 lo (n + k) ∙ ap (λ (x : ℕ). range_with_len 0 lo ++ range_with_len x (n + k)) z)
+      ∙ filter_append f (range_with_len 0 lo) (range_with_len lo (n + k))
+      ∙ ap (λ (xs : List ℕ). before ++ xs) (ap (filter f) (range_split lo n k) ∙ filter_append f (range_with_len lo n) (range_with_len (lo + n) k))

@@ -5,8 +5,7 @@ use Rattle.search.proofs.Common.{leads, linked, cell, marked, SEATS, used, taken
 use Rattle.search.proofs.Common.{slot_on, part, Parted, Trailed}
 use Rattle.order.proofs.Ways.{Way}
 use Rattle.order.proofs.Climbs.{fine_parts, leads_way}
-use Rattle.search.proofs.Between.{arc, Setting, used_tells, taken_tells, arc_tells, comes_round, part_tells, part_from}
-use Rattle.search.proofs.Sounding.{Sound}
+use Rattle.search.proofs.Between.{arc, Setting, used_tells, taken_tells, arc_tells, comes_round, part_tells, part_from, Sound}
 
 -- what a link leads to from a place that the search has come to, it has come to
 abbrev pub Closed : List ℕ → ℕ → ℕ → Side → List ℕ → ℕ → Type 0

@@ -1,18 +1,12 @@
 -- Fuel: how many links a key has, and what all keys that are left have in all.
-use Rattle.std.proofs.Common.{◌≡◌, ℕ, zero, suc, ◌+◌, ◌<◌, ◌≤◌, Bool, true, false, cond, eqb, ltb, List, [], ◌∷◌, length, refl, ⊎_elim, arith}
+use Rattle.std.proofs.Common.{◌≡◌, ℕ, zero, suc, ◌+◌, ◌<◌, ◌≤◌, Bool, true, false, cond, eqb, ltb, List, [], ◌∷◌, length, ⊎_elim, arith}
 use Rattle.search.proofs.Common.{Link, filter}
 use Rattle.std.proofs.lemmas.Bool.{cases_eq}
 use Rattle.std.proofs.lemmas.Bool.Decides.{nat_tests}
 
--- the links of the key k
-unfoldable pub entries : (Link → ℕ) → ℕ → List Link → ℕ
-entries g k [] = 0
-entries g k (l ∷ ls) = entries g k ls + cond (eqb (g l) k) 1 0
-
-pub entries_are : (g : Link → ℕ) (k : ℕ) (ls : List Link) → length (filter (λ l. eqb (g l) k) ls) ≡ entries g k ls
-unfolding entries filter
-entries_are g k [] = refl
-entries_are g k (l ∷ ls) = let ih = entries_are g k ls in grind arith
+-- how many links the key k has
+abbrev pub entries : (Link → ℕ) → ℕ → List Link → ℕ
+entries g k ls = length (filter (λ l. eqb (g l) k) ls)
 
 -- what the keys below n that aren't passed weigh
 unfoldable pub weight : (ℕ → ℕ) → (ℕ → Bool) → ℕ → ℕ
@@ -46,14 +40,14 @@ one_more u v X a zero h = omega arith
 one_more u v X a (suc n) h = let ih = one_more u v X a n h in let e = h n in grind (arith, nat_tests)
 
 ends_only : (g : Link → ℕ) (X : ℕ → Bool) (n : ℕ) → weight (cost g []) X n ≤ n
-unfolding weight entries
+unfolding weight filter
 ends_only g X zero = omega arith
 ends_only g X (suc n) = let ih = ends_only g X n in grind arith
 
 pub weight_all : (g : Link → ℕ) (X : ℕ → Bool) (n : ℕ) (ls : List Link) → weight (cost g ls) X n ≤ length ls + n
-unfolding entries
+unfolding filter
 weight_all g X n [] = let e = ends_only g X n in omega arith
 weight_all g X n (l ∷ ls) =
     let ih = weight_all g X n ls in
-    let o = one_more (cost g (l ∷ ls)) (cost g ls) X (g l) n (λ k. omega arith) in
+    let o = one_more (cost g (l ∷ ls)) (cost g ls) X (g l) n (λ k. grind arith) in
     grind arith

@@ -18,7 +18,7 @@ use Rattle.links.specs.Pairs.{unpair}
 use Rattle.links.specs.Laws.{Gives}
 use Rattle.links.proofs.Giving.{gives}
 use Rattle.search.proofs.Between.{arc}
-use Rattle.search.proofs.Potential.{entries, entries_are}
+use Rattle.search.proofs.Potential.{entries}
 
 -- the end of a link by which a search finds it, and the one that it leads to
 abbrev pub near_end : Side → Link → ℕ
@@ -50,11 +50,6 @@ has_ends p g t (l ∷ ls) =
     let ih = has_ends p g t ls in
     elim (cases_Bool (p l)) [ inl e ↦ rw e (grind (arith, nat_tests)) | inr e ↦ rw e ih ]
 
-any_same : (f g : Link → Bool) → ((l : Link) → f l ≡ g l) → (ls : List Link) → any f ls ≡ any g ls
-unfolding any
-any_same f g h [] = refl
-any_same f g h (l ∷ ls) = let e = h l in let ih = any_same f g h ls in cc
-
 -- the labels of the chain, as the table gives them
 labelled : (m : List ℕ) → IsTable m → (d : Side) (s : ℕ) → s < CARDS →
     labels (walked ENTRIES (table_of d) m s) ≡ reverse (map (far_end d) (filter (λ l. eqb (near_end d l) s) (edges m)))
@@ -64,7 +59,10 @@ labelled m t Hind s h = (gives m t).1 s h
 
 arc_any : (m : List ℕ) (d : Side) (s t : ℕ) → any (λ l. eqb (near_end d l) s && eqb (far_end d l) t) (edges m) ≡ arc (slot_board m) d s t
 arc_any m Fore s t = refl
-arc_any m Hind s t = any_same (λ l. eqb l.to s && eqb l.from t) (λ l. eqb l.from t && eqb l.to s) (λ l. grind arith) (edges m)
+arc_any m Hind s t = ap (λ (f : Link → Bool). any f (edges m)) (λ i l. turned l i)
+  where
+    turned : (l : Link) → (eqb l.to s && eqb l.from t) ≡ (eqb l.from t && eqb l.to s)
+    turned l = grind arith
 
 held : (m : List ℕ) → IsTable m → (d : Side) → (chains : ℕ → List Pointer) × Holds (table_of d) m chains
 held m t Fore = (_, t.table.table.outs)
@@ -90,8 +88,7 @@ along m t d s h =
         led = leads T (at T m) xs s (H.1.spelled s k);
         goals = λ t. ap (λ (ys : List ℕ). has ys t) l ∙ has_turned (map (far_end d) ks) [] t ∙ has_ends (λ l. eqb (near_end d l) s) (far_end d) t (edges m)
             ∙ arc_any m d s t;
-        long = sym (length-map xs (λ (x : Pointer). x.label)) ∙ ap length l ∙ length-reverse (map (far_end d) ks) ∙ length-map ks (far_end d)
-            ∙ entries_are (near_end d) s (edges m);
+        long = sym (length-map xs (λ (x : Pointer). x.label)) ∙ ap length l ∙ length-reverse (map (far_end d) ks) ∙ length-map ks (far_end d);
       },
     )
 

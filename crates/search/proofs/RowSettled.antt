@@ -24,11 +24,11 @@ use Rattle.row.proofs.Named.{used_seat, has_slot, place_ranked}
 use Rattle.row.proofs.Present.{few_cards}
 use Rattle.links.proofs.Keeping.{table_kept, edges_kept}
 use Rattle.search.specs.SettleLaws.{Unmarked, Settled, Settles}
-use Rattle.search.proofs.Listed.{Lists, lists_filter, counting_has}
-use Rattle.search.proofs.InThree.{before, inner, behind, in_inner, inner_once, before_out, behind_out, part_end, in_three}
+use Rattle.search.proofs.Listed.{Lists, lists_filter, counting_has, before, inner, behind, in_inner, inner_once, before_out, behind_out, part_end}
+use Rattle.search.proofs.Listed.{in_three}
 use Rattle.search.proofs.Mapped.{map_filter, filter_same, filter_both, filter_fewer}
-use Rattle.search.proofs.Gathering.{Marking, marking_kept, wrote, wrote_append, writes_wrote, wrote_reads, gathers_list}
-use Rattle.search.proofs.Dealing.{put, put_slots, put_places, writes_put, deals}
+use Rattle.search.proofs.Gathering.{Marking, marking_kept, wrote, wrote_append, writes_wrote, wrote_reads, gathers_list, put, put_slots, put_places}
+use Rattle.search.proofs.Gathering.{writes_put, deals}
 use Rattle.search.proofs.Exchanged.{exchanged, exchanged_same}
 use Rattle.search.proofs.Seating.{Rearranges, used_same, standing_again}
 use Rattle.search.proofs.Reordered.{those, fill, rearranges, row_is}

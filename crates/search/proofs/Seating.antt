@@ -1,5 +1,5 @@
 -- Slots and seats after an exchange: a row that stands stands with the slots of some seats in another order. Over any columns.
-use Rattle.std.proofs.Common.{◌≡◌, ℕ, ◌<◌, Bool, true, false, ◌&&◌, eqb, ltb, List, [], ◌∷◌, length, sym, ap, ◌∙◌, subst, inl, inr, arith}
+use Rattle.std.proofs.Common.{◌≡◌, ℕ, ◌<◌, Bool, true, false, List, [], ◌∷◌, length, sym, ap, ◌∙◌, subst, inl, inr, arith}
 use Rattle.std.proofs.lemmas.Bool.{cases_Bool, both_ways, false_from_ne_true, lt-ltb, eq-eqb, and_from}
 use Rattle.std.proofs.lemmas.Bool.Decides.{nat_tests}
 use Rattle.search.proofs.Common.{CARDS, has, distinct, in_use, Seating, Stacked, Chains, Freed, Standing}
@@ -51,16 +51,13 @@ module _ (n e f top : ℕ) (ps ks : List ℕ) (id next slot seat : ℕ → ℕ) 
   seat_out s h = seat_is s ∙ exchanged_out seat ks ps s h
 
   -- a slot is in use as it was
-  sits_same : (k : ℕ) → (held (seat' k) && eqb (slot' (seat' k)) k) ≡ (held (seat k) && eqb (slot (seat k)) k)
-  sits_same k =
+  pub used_same : (k : ℕ) → in_use slot' seat' held k ≡ in_use slot seat held k
+  unfolding in_use
+  used_same k =
       let a = seat_in k in let b = slot_was k in let c = R.seats_held (seat' k) in let d = R.seats_held (seat k) in
       let e = seat_out k in let f = slot_in (seat k) in let g = R.all (seat k) in
       let h = slot_is (seat k) in let i = exchanged_out slot ps ks (seat k) in
       grind (arith, nat_tests)
-
-  pub used_same : (k : ℕ) → in_use slot' seat' held k ≡ in_use slot seat held k
-  unfolding in_use
-  used_same k = ap (λ (b : Bool). ltb k CARDS && b) (sits_same k)
 
   used_all : in_use slot' seat' held ≡ in_use slot seat held
   used_all = λ t k. used_same k t

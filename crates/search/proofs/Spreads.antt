@@ -9,9 +9,8 @@ use Rattle.chains.specs.Packing.{decoded}
 use Rattle.chains.specs.Tables.{node, at}
 use Rattle.chains.specs.Walks.{met}
 use Rattle.chains.proofs.Walking.{Leads, met_none, met_some}
-use Rattle.search.proofs.Between.{arc, Setting}
+use Rattle.search.proofs.Between.{arc, Setting, Sound, Grown, grown_on}
 use Rattle.search.proofs.Reaching.{labels}
-use Rattle.search.proofs.Sounding.{Sound, Grown, grown_on}
 use Rattle.search.proofs.Entering.{enters, entered_seen, seen_is}
 
 table_clear : (d : Side) → clear searched (table_of d).cells ≡ true

@@ -9,11 +9,9 @@ use Rattle.search.specs.declared.hunt.TheConstants.{FUEL, TURNS}
 use Rattle.search.specs.HuntLaws.{Found, Meets}
 use Rattle.search.proofs.Touching.{writes_started}
 use Rattle.search.proofs.Potential.{weight_all}
-use Rattle.search.proofs.Between.{origin, comes_self, Setting, used_tells, seat_below, part_from}
+use Rattle.search.proofs.Between.{origin, comes_self, Setting, used_tells, seat_below, part_from, Sound, marked_same, summed_same}
 use Rattle.search.proofs.Reaching.{near_end, few_edges}
-use Rattle.search.proofs.Sounding.{Sound, marked_same, summed_same}
-use Rattle.search.proofs.Cursors.{passed, not_passed, left_over}
-use Rattle.search.proofs.Advancing.{Placed}
+use Rattle.search.proofs.Advancing.{passed, not_passed, left_over, Placed}
 use Rattle.search.proofs.Bounding.{hunts}
 
 module _ (m : List ℕ) (a b : ℕ) (S : Setting m a b) where

@@ -66,8 +66,5 @@ pub writes_meeting : (m : List ℕ) (l : Link) → Writes searched m (meeting m 
 unfolding meeting
 writes_meeting m l = on searched m _ _ (writes_started m l) (writes_hunted TURNS _ (part_of m l) _ _)
 
-pub writes_met : (m : List ℕ) (l : Link) (m' : List ℕ) → m' ≡ (meeting m l).memory → Writes searched m m'
-writes_met m l m' e = rw e (writes_meeting m l)
-
 pub entered_wrote : (m : List ℕ) (d : Side) (w : Part) (s t : ℕ) (m' : List ℕ) → s < 2 ^ 64 → m' ≡ entered m d w s t → Writes searched m m'
 entered_wrote m d w s t m' f e = rw e (writes_entered m d w s (λ _. f) m t (same searched m))

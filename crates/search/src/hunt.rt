@@ -183,7 +183,7 @@ fn hunt(memory: &mut Memory, part: Part, mut near: Front, mut far: Front) -> Opt
 
 // For a link between slots that goes backward: whether links lead from its second end to its first. Says a link at which the searches from both ends
 // met; none if they went to their ends.
-#[tactic(auto, using(crate::proofs::Starting::meets_so, crate::proofs::Touching::writes_met), unfolding(crate::specs::Hunt::meeting))]
+#[tactic(auto, using(crate::proofs::Starting::meets_so, crate::proofs::Touching::writes_meeting), unfolding(crate::specs::Hunt::meeting))]
 pub fn meet(memory: &mut Memory, link: Link) -> Option<Link>
     ensures is { result ≡ (meeting memory.old link).answer }
     ensures after { memory.new ≡ (meeting memory.old link).memory }

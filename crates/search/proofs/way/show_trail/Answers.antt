@@ -1,5 +1,5 @@
 use Rattle.std.proofs.Common.{arith}
-use Rattle.search.proofs.Following.{walked_more, walked_last, walked_end}
+use Rattle.search.proofs.Joining.{walked_more, walked_last, walked_end}
 use Rattle.search.proofs.way.show_trail.Goals as goal
 
 pub returns-then-slot-last : goal.returns-then-slot-last

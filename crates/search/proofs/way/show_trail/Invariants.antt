@@ -1,5 +1,5 @@
 use Rattle.search.proofs.Common.{cell, IDS}
-use Rattle.search.proofs.Following.{Walked}
+use Rattle.search.proofs.Joining.{Walked}
 use Rattle.search.proofs.way.show_trail.Given as goal
 
 abbrev pub invariant-loop-i : goal.invariant-loop-i
