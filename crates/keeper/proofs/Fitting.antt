@@ -1,18 +1,18 @@
 -- A step is taken if the memory and the output fit, else nothing is changed.
 use Rattle.std.proofs.Common.{◌≡◌, ℕ, ◌<◌, ◌≤◌, ◌≢◌, Bool, true, false, List, ◌++◌, length, take, drop, Result, Err, sym, refl, ap, ◌∙◌, ap₂, arith}
 use Rattle.std.proofs.lemmas.Bool.Decides.{nat_tests}
-use Rattle.std.proofs.lemmas.Bool.{eq-eqb, ne_eqb}
+use Rattle.std.proofs.lemmas.Bool.{eq-eqb}
 use Rattle.memory.specs.declared.column.TheConstants.{MEMORY}
 use Rattle.keeper.specs.declared.layout.TheConstants.{OUTPUT}
 use Rattle.keeper.specs.declared.event.Event.{Event}
 use Rattle.keeper.specs.declared.event.Event.TheVariants.{Said, Next}
 use Rattle.keeper.specs.declared.event.Act.{Act}
 use Rattle.keeper.specs.declared.event.Reason.{Reason}
-use Rattle.keeper.specs.declared.event.Reason.TheVariants.{Unfit, Busy}
+use Rattle.keeper.specs.declared.event.Reason.TheVariants.{Unfit}
 use Rattle.command.specs.declared.command.Command.{Command}
 use Rattle.keeper.specs.declared.event.Telling.{Telling}
 use Rattle.keeper.specs.declared.event.Telling.TheVariants.{Written}
-use Rattle.keeper.specs.Answers.{Gives, quiet, ends, pending, written_out, as_told}
+use Rattle.keeper.specs.Answers.{Gives, pending, written_out, as_told}
 use Rattle.keeper.specs.Playing.{stepped, StepsTo}
 use Rattle.keeper.specs.Engine.{action_of}
 use Rattle.keeper.proofs.Size.{guarded_small}

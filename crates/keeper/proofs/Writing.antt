@@ -5,7 +5,7 @@ use Rattle.keeper.specs.declared.event.Act.TheVariants.{Tells, Shows, Done}
 use Rattle.keeper.specs.declared.event.Reason.{Reason}
 use Rattle.keeper.specs.declared.event.Telling.{Telling}
 use Rattle.keeper.specs.declared.event.Telling.TheVariants.{Written, PassedOver}
-use Rattle.keeper.specs.Answers.{Gives, quiet, ends, written_out, as_told}
+use Rattle.keeper.specs.Answers.{written_out}
 
 pub written_none : (w : Telling) (a : Result Act Reason) → written_out w a [] ≡ []
 unfolding written_out
