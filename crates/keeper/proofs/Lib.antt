@@ -32,4 +32,3 @@ pub mod ToldParts
 pub mod Wholly
 pub mod PlayedRun
 pub mod RowRead
-pub mod EngineSteps

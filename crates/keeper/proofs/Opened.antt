@@ -9,21 +9,13 @@ use Rattle.command.specs.Commands.{may_be}
 use Rattle.order.proofs.Filters.{every_append, every_more}
 use Rattle.order.proofs.Climbs.{fine_parts, fine_from, link_before}
 use Rattle.order.proofs.Allowed.{Open, forward_kept, keeps_more}
-use Rattle.order.proofs.Little.{link_has}
+use Rattle.order.proofs.Staying.{open_stays as there_stay}
 
 module _ (r : Board) (f : fine r ≡ true) (a b : ℕ) where
   pub open_stays : (has r.row a ≡ true) × (has r.row b ≡ true) → (row : List ℕ) → may_be r (Links (a ⟶ b)) row ≡ true → keeps row (with_link r a b) ≡ true →
       fine (record { row = row; links = with_link r a b }) ≡ true
-  unfolding every may_be
-  open_stays t row m ke =
-      let g = fine_parts r f in
-      let p = link_has r g a b row m in
-      let ha = p.1 a in
-      let hb = p.1 b in
-      fine_from row _ p.0
-      (every_append _ r.links _
-      ∙ and_from _ _ (every_more _ _ (λ x e. let hf = p.1 x.from in let ht = p.1 x.to in grind arith) r.links g.ends) (grind arith))
-      ke
+  unfolding may_be
+  open_stays t row m ke = there_stay r f a b t row m ke
 
   pub open_keeps : Open r a b → backward r a b ≡ false → keeps r.row (with_link r a b) ≡ true
   open_keeps o n = let p = fine_parts r f in keeps_more r p a b o r.row (link_before r p) (forward_kept r p a b o n)
