@@ -28,7 +28,7 @@ pub mod Forward
 pub mod Backward
 pub mod Moving
 pub mod ToldRuns
-pub mod ToldParts
+pub mod LinksMade
 pub mod Wholly
 pub mod PlayedRun
 pub mod RowRead

@@ -32,7 +32,7 @@ use Rattle.keeper.proofs.CardsCome.{comes_means}
 use Rattle.keeper.proofs.CardsGo.{goes_means}
 use Rattle.keeper.proofs.Placing.{places_means}
 use Rattle.keeper.proofs.Unlinking.{unlinks_means}
-use Rattle.keeper.proofs.ToldParts.{links_means}
+use Rattle.keeper.proofs.LinksMade.{links_means}
 
 -- each command, from the board that the memory means on
 each : (m : List ℕ) (c : Command) → Means m (card_board m) → small_command c ≡ true → StepKept own 3 Means m (card_board m) c
