@@ -50,22 +50,6 @@ use Rattle.keeper.proofs.Bounds.{settled_writes}
 use Rattle.search.proofs.SettleFrames.{writes_forgotten}
 use Rattle.search.proofs.Joining.{way_few}
 
--- what the crates below do to the memory
-pub size_inserted : (m : List ℕ) (x : Link) → KeepsSize m (inserted m x)
-size_inserted m x = size_writes link_columns m _ (inserted_writes m x)
-
-pub size_removed : (m : List ℕ) (x : Link) → KeepsSize m (removed m x).memory
-size_removed m x = size_writes link_columns m _ (removed_writes m x)
-
-pub size_meeting : (m : List ℕ) (x : Link) → KeepsSize m (meeting m x).memory
-size_meeting m x = size_writes _ m _ (writes_meeting m x)
-
-pub size_forgotten : (m : List ℕ) → KeepsSize m (forgotten m)
-size_forgotten m = size_writes _ m _ (writes_forgotten m)
-
-pub size_settled : (m : List ℕ) → KeepsSize m (settled m)
-size_settled m = size_writes _ m _ (settled_writes m)
-
 pub size_pending : (m m₁ : List ℕ) (k : ℕ) → k < 2 ^ 64 → KeepsSize m m₁ → KeepsSize m (leaves_pending m₁ k)
 size_pending m m₁ k l b = size_then m m₁ _ b (size_writes columns m₁ _ (noted m₁ m₁ k l (same columns m₁)))
 
@@ -135,7 +119,7 @@ sized_round : (m : List ℕ) (x y : Link) → Sized m (shown_round m x y)
 unfolding shown_round round_cards
 sized_round m x y =
     let w = way (cell m VIA) CARDS x y in
-    sized_shows m _ _ _ (size_pending m _ 2 (omega arith) (size_forgotten m)) (omega (arith, length-map w (cell m IDS), way_few (cell m VIA) CARDS x y))
+    sized_shows m _ _ _ (size_pending m _ 2 (omega arith) (size_writes _ m _ (writes_forgotten m))) (omega (arith, length-map w (cell m IDS), way_few (cell m VIA) CARDS x y))
     (λ h. small_map (cell m IDS) (λ k. small_cell m IDS k (small_each m h)) w)
 
 pub small_one : (k : ℕ) → k < 2 ^ 64 → all_small (k ∷ []) ≡ true
@@ -168,21 +152,21 @@ sized_places m a b =
 sized_moved : (m : List ℕ) (x : Link) → Sized m (moved m x)
 unfolding moved
 sized_moved m x =
-    sized_cond m (leb LINKS (live m)) _ _ (sized_refuses m (forgotten m) (size_forgotten m) Full)
-    (sized_then m (inserted (settled m) x) (size_then m (settled m) _ (size_settled m) (size_inserted (settled m) x)) _
+    sized_cond m (leb LINKS (live m)) _ _ (sized_refuses m (forgotten m) (size_writes _ m _ (writes_forgotten m)) Full)
+    (sized_then m (inserted (settled m) x) (size_then m (settled m) _ (size_writes _ m _ (settled_writes m)) (size_writes link_columns _ _ (inserted_writes (settled m) x))) _
     (sized_told (inserted (settled m) x) (place_at m x.to) (min (place_at m x.from + 1) (2 ^ 64 - 1))))
 
 sized_reordered : (m : List ℕ) (x : Link) → Sized m (reordered m x)
 unfolding reordered
 sized_reordered m x =
     let n = (meeting m x).memory in
-    let s = size_meeting m x in
+    let s = size_writes _ m _ (writes_meeting m x) in
     given_holds Any (Sized m) (meeting m x).answer _ _ tt (sized_then m n s _ (sized_moved n x)) (λ y _. sized_then m n s _ (sized_round n x y))
 
 sized_put : (m : List ℕ) (x : Link) → Sized m (quiet (put_in m x))
 unfolding put_in
 sized_put m x =
-    cond_holds (λ (e : Ended). Sized m (quiet e)) (leb LINKS (live m)) _ _ (sized_refuses m m (size_same m) Full) (sized_done m _ (size_inserted m x))
+    cond_holds (λ (e : Ended). Sized m (quiet e)) (leb LINKS (live m)) _ _ (sized_refuses m m (size_same m) Full) (sized_done m _ (size_writes link_columns _ _ (inserted_writes m x)))
 
 sized_linked : (m : List ℕ) (l : Link) → l.from < 2 ^ 64 → Sized m (linked m l)
 unfolding linked
@@ -198,8 +182,8 @@ sized_unlinked : (m : List ℕ) (l : Link) → Sized m (quiet (unlinked m l))
 unfolding unlinked
 sized_unlinked m l =
     given_holds Any (λ (e : Ended). Sized m (quiet e)) (slots_found m l) _ _ tt (sized_refuses m m (size_same m) Missing) (λ x _.
-    by_result_holds (λ (e : Ended). Sized m (quiet e)) (removed m x).answer _ _ (λ _. sized_done m _ (size_removed m x))
-    (λ _. sized_refuses m _ (size_removed m x) Missing))
+    by_result_holds (λ (e : Ended). Sized m (quiet e)) (removed m x).answer _ _ (λ _. sized_done m _ (size_writes link_columns _ _ (removed_writes m x)))
+    (λ _. sized_refuses m _ (size_writes link_columns _ _ (removed_writes m x)) Missing))
 
 -- cards come and go
 sized_came : (m : List ℕ) (k : ℕ) → k < 2 ^ 64 → Sized m (said m (Comes k))

@@ -95,7 +95,7 @@ pub fn play(memory: &mut [u64], command: Command, out: &mut [u64]) -> Played
 
 // Writes the row, as the memory has it, to the front of `row`, and says how many cards it has; nothing if it finds no room, or if the memory isn't as long as
 // it has to be.
-#[tactic(auto, using(crate::proofs::RowRead::reading))]
+#[tactic(auto, unfolding(crate::specs::Playing::row_read, crate::specs::Playing::read_count))]
 pub fn read_row(memory: &[u64], row: &mut [u64]) -> u64
     ensures is { result ≡ read_count memory.now row.old }
     ensures row { row.new ≡ row_read memory.now row.old }
