@@ -1,5 +1,5 @@
 -- A link that goes backward, whatever the search finds; and so each link.
-use Rattle.std.proofs.Common.{◌≡◌, ℕ, ◌-◌, ◌<◌, true, false, List, Some, None, Option, refl, ◌∙◌, inl, inr}
+use Rattle.std.proofs.Common.{◌≡◌, ℕ, ◌<◌, true, false, List, Some, None, Option, refl, ◌∙◌, inl, inr}
 use Rattle.std.proofs.lemmas.Bool.{cases_lt, ne_eqb, lt-ltb}
 use Rattle.order.specs.declared.board.TheConstants.{LINKS}
 use Rattle.order.specs.declared.board.Link.{Link}

@@ -1,13 +1,11 @@
 -- A link between cards that are there, whatever the number of links: with a row that may be so and that keeps it, the board is fine.
-use Rattle.std.proofs.Common.{◌≡◌, ℕ, true, false, List, ◌∙◌, arith}
-use Rattle.std.proofs.lemmas.Bool.{and_from}
+use Rattle.std.proofs.Common.{◌≡◌, ℕ, true, false, List}
 use Rattle.command.specs.declared.command.Command.TheVariants.{Link as Links}
-use Rattle.order.specs.Lists.{every, has}
+use Rattle.order.specs.Lists.{has}
 use Rattle.order.specs.Board.{Board, ◌⟶◌, keeps, fine}
 use Rattle.order.specs.Reordering.{with_link, backward}
 use Rattle.command.specs.Commands.{may_be}
-use Rattle.order.proofs.Filters.{every_append, every_more}
-use Rattle.order.proofs.Climbs.{fine_parts, fine_from, link_before}
+use Rattle.order.proofs.Climbs.{fine_parts, link_before}
 use Rattle.order.proofs.Allowed.{Open, forward_kept, keeps_more}
 use Rattle.order.proofs.Staying.{open_stays as there_stay}
 

@@ -1,14 +1,10 @@
 -- The row that is read from a memory that means a board is the board's.
-use Rattle.std.proofs.Common.{◌≡◌, ℕ, ◌≢◌, List, ◌++◌, length, drop, refl, sym, ap, ◌∙◌, arith}
-use Rattle.std.proofs.lemmas.Bool.{eq-eqb, ne_eqb}
+use Rattle.std.proofs.Common.{◌≡◌, ℕ, List, ◌++◌, length, drop, sym, ap, ◌∙◌, arith}
 use Rattle.std.proofs.lemmas.List.{take_all}
 use Rattle.order.specs.Board.{Board}
-use Rattle.memory.specs.declared.column.TheConstants.{MEMORY}
 use Rattle.row.specs.Meaning.{count, cards}
-use Rattle.row.specs.Telling.{told, told_count}
 use Rattle.row.proofs.Present.{length_cards}
 use Rattle.row.proofs.Tellings.{tells_middle}
-use Rattle.keeper.specs.Playing.{row_read, read_count}
 use Rattle.keeper.specs.PlayLaws.{ReadsRow}
 
 pub reads_row : ReadsRow
