@@ -29,7 +29,7 @@ use Rattle.keeper.proofs.Ends.{Go}
 use Rattle.keeper.proofs.Size.{guarded_small}
 use Rattle.keeper.proofs.OwnSize.{sized_answer}
 use Rattle.keeper.proofs.Saying.{number_fits}
-use Rattle.keeper.proofs.Wholly.{kept}
+use Rattle.keeper.proofs.Wholly.{kept, whole_own, whole_in_own}
 
 -- done if the run was done, and refused by the board if the run was
 abbrev pub SoEnded : ℕ → List ℕ → Result (Unit {0}) Reason → List ℕ → Type 0
@@ -124,3 +124,5 @@ plays_right m r c out l a M f sm o =
 pub plays_unfit : PlaysUnfit
 unfolding plays by_act stepped
 plays_unfit m c out f = rw f
+
+pub ruleset playing = (plays_right, whole_own, whole_in_own)

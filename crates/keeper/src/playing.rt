@@ -64,6 +64,7 @@ fn take_next(memory: &mut [u64], out: &mut [u64]) -> Result<Act, Reason>
 }
 
 // Goes on from a first answer up to the end of what was said, and passes over what is told. Two more steps are enough, unless the memory isn't a keeper's.
+#[tactic(auto, using(crate::proofs::PlayedOn::goes_on))]
 #[inline(always)]
 pub fn play_on(memory: &mut [u64], first: Result<Act, Reason>, out: &mut [u64]) -> Played
     ensures { Went (played_on 2 memory.old first out.old 0) result memory.new out.new }
@@ -82,6 +83,7 @@ pub fn play_on(memory: &mut [u64], first: Result<Act, Reason>, out: &mut [u64]) 
 
 // Says a command, and goes on until it's at its end; what is told is passed over. The steps are those of the engine that meets the promise; what is played is
 // then done or refused as the board says.
+#[tactic(auto, using(crate::proofs::PlayedRun::playing))]
 #[inline(always)]
 pub fn play(memory: &mut [u64], command: Command, out: &mut [u64]) -> Played
     ensures went { Went (played memory.old command out.old) result memory.new out.new }
