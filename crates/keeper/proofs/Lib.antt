@@ -20,9 +20,7 @@ pub mod Fitting
 pub mod PlayedOn
 pub mod Saying
 pub mod TwoCards
-pub mod CardsCome
-pub mod CardsGo
-pub mod Placing
+pub mod Cards
 pub mod Unlinking
 pub mod Forward
 pub mod Backward

@@ -28,9 +28,7 @@ use Rattle.keeper.proofs.Carrying.{ready_of, board_of}
 use Rattle.keeper.proofs.Simulation.{StepKept, Kept, whole_in, soon_is_more}
 use Rattle.keeper.proofs.Fitting.{written_says}
 use Rattle.keeper.proofs.OwnSize.{own_steady, own_fits}
-use Rattle.keeper.proofs.CardsCome.{comes_means}
-use Rattle.keeper.proofs.CardsGo.{goes_means}
-use Rattle.keeper.proofs.Placing.{places_means}
+use Rattle.keeper.proofs.Cards.{comes_means, goes_means, places_means}
 use Rattle.keeper.proofs.Unlinking.{unlinks_means}
 use Rattle.keeper.proofs.LinksMade.{links_means}
 
