@@ -31,7 +31,7 @@ use Rattle.keeper.specs.Promise.{small_command}
 use Rattle.keeper.specs.Answers.{quiet, ends, leaves_pending}
 use Rattle.keeper.specs.Own.{ended, said, own}
 use Rattle.keeper.specs.Meaning.{card_board, Means}
-use Rattle.keeper.proofs.Unmoved.{comes_keeps, goes_keeps}
+use Rattle.keeper.proofs.Opened.{comes_keeps, goes_keeps}
 use Rattle.keeper.proofs.Simulation.{StepKept}
 use Rattle.keeper.proofs.Cases.{comes_kept, goes_kept, places_kept}
 use Rattle.keeper.proofs.Knowing.{ends_used, fine_cards, names}

@@ -1,12 +1,10 @@
 pub mod Ends
 pub mod Unroll
 pub mod Simulation
-pub mod Unmoved
 pub mod Opened
 pub mod Parts
 pub mod Cases
 pub mod Size
-pub mod Zeros
 pub mod Same
 pub mod Excluding
 pub mod Writing
@@ -26,7 +24,6 @@ pub mod Forward
 pub mod Backward
 pub mod Moving
 pub mod ToldRuns
-pub mod LinksMade
 pub mod Wholly
 pub mod PlayedRun
 pub mod RowRead

@@ -42,10 +42,9 @@ use Rattle.keeper.specs.Telling.{cards_from, middle, left_to_tell, end_at, told_
 use Rattle.keeper.specs.Reordering.{round_cards, shown_round, moved, reordered}
 use Rattle.keeper.specs.Linking.{slots_found, unlinked, put_in, linked}
 use Rattle.keeper.specs.Own.{left, shown_places, said, finished, went_on, answer, steps, own}
-use Rattle.keeper.proofs.Size.{small_each, small_take, small_map, size_same, size_then, size_writes, cond_holds, guarded_fits, fits_tells, fits_shows}
+use Rattle.keeper.proofs.Size.{small_each, small_take, small_map, size_same, size_then, size_writes, cond_holds, guarded_fits, fits_tells, fits_shows, steady_zeros}
 use Rattle.keeper.proofs.Carrying.{noted, noted_more}
 use Rattle.keeper.proofs.TellingParts.{length_middle}
-use Rattle.keeper.proofs.Zeros.{steady_zeros}
 use Rattle.search.proofs.Touching.{writes_meeting}
 use Rattle.keeper.proofs.Bounds.{settled_writes}
 use Rattle.search.proofs.SettleFrames.{writes_forgotten}
@@ -127,9 +126,11 @@ good_round : {P : Type 0} (m : List ℕ) (x y : Link) → Good P m (shown_round 
 unfolding shown_round round_cards
 good_round m x y =
     let w = way (cell m VIA) CARDS x y in
-    let f : length (map (cell m IDS) w) ≤ OUTPUT = omega (arith, length-map w (cell m IDS), way_few (cell m VIA) CARDS x y) in
-    (f, λ _. sized_shows m _ _ _ (size_pending m _ 2 (omega arith) (size_writes _ m _ (writes_forgotten m))) f
-    (λ h. small_map (cell m IDS) (λ k. small_cell m IDS k (small_each m h)) w))
+    let f : length (map (cell m IDS) w) ≤ OUTPUT = omega (arith, length-map w (cell m IDS), way_few (cell m VIA) CARDS x y) in (
+      f,
+      λ _. sized_shows m _ _ _ (size_pending m _ 2 (omega arith) (size_writes _ m _ (writes_forgotten m))) f
+          (λ h. small_map (cell m IDS) (λ k. small_cell m IDS k (small_each m h)) w),
+    )
 
 pub small_one : (k : ℕ) → k < 2 ^ 64 → all_small (k ∷ []) ≡ true
 unfolding all_small every
@@ -161,8 +162,10 @@ module _ {P : Type 0} (m : List ℕ) where
   good_places : (a b : ℕ) → Good P m (shown_places m a b)
   good_places a b =
       given_holds (PlaceSmall m) (Good P m) (place_found m a) _ _ (place_small m a) (good_refused Missing) (λ p u.
-      given_holds (PlaceSmall m) (Good P m) (place_found m b) _ _ (place_small m b) (good_refused Missing) (λ q v. (omega arith,
-      λ _. sized_shows m _ 2 _ (size_pending m m 1 (omega arith) (size_same m)) (omega arith) (λ h. small_two p q (u h) (v h)))))
+      given_holds (PlaceSmall m) (Good P m) (place_found m b) _ _ (place_small m b) (good_refused Missing) (λ q v. (
+        omega arith,
+        λ _. sized_shows m _ 2 _ (size_pending m m 1 (omega arith) (size_same m)) (omega arith) (λ h. small_two p q (u h) (v h)),
+      )))
 
 -- links are made and taken back
 good_moved : {P : Type 0} (m : List ℕ) (x : Link) → Good P m (moved m x)

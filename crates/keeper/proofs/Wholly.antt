@@ -30,7 +30,7 @@ use Rattle.keeper.proofs.Fitting.{written_says}
 use Rattle.keeper.proofs.OwnSize.{own_steady, own_fits}
 use Rattle.keeper.proofs.Cards.{comes_means, goes_means, places_means}
 use Rattle.keeper.proofs.Unlinking.{unlinks_means}
-use Rattle.keeper.proofs.LinksMade.{links_means}
+use Rattle.keeper.proofs.Moving.{links_means}
 
 -- each command, from the board that the memory means on
 each : (m : List ℕ) (c : Command) → Means m (card_board m) → small_command c ≡ true → StepKept own 3 Means m (card_board m) c
