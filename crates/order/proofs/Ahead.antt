@@ -16,38 +16,15 @@ both_second xs ys x y p q l = rw (place_right xs ys x p, place_right xs ys y q) 
 pub before_behind : (A X X' : List ℕ) (x y : ℕ) → place (A ++ X) x < place (A ++ X) y →
     (has A x ≡ false → has A y ≡ false → place X x < place X y → place X' x < place X' y) → place (A ++ X') x < place (A ++ X') y
 before_behind A X X' x y l k =
-    grind (
-      arith,
-      k,
-      place_below A y,
-      place_left A X x,
-      place_left A X y,
-      place_left A X' x,
-      place_left A X' y,
-      place_below A x,
-      place_right A X x,
-      place_right A X y,
-      place_right A X' x,
-      place_right A X' y,
-    )
+    let a = place_left A X x in let b = place_left A X y in let c = place_left A X' x in let d = place_left A X' y in
+    let e = place_right A X x in let f = place_right A X y in let g = place_right A X' x in let h = place_right A X' y in
+    grind (arith, k, place_below A x, place_below A y)
 
 -- another list of the same numbers before the same rest
 pub before_ahead : (M M' P : List ℕ) (x y : ℕ) → ((k : ℕ) → has M' k ≡ has M k) → place (M ++ P) x < place (M ++ P) y →
     (has M x ≡ true → has M y ≡ true → place M x < place M y → place M' x < place M' y) → place (M' ++ P) x < place (M' ++ P) y
 before_ahead M M' P x y h l k =
-    let hx = h x in
-    let hy = h y in
-    grind (
-      arith,
-      k,
-      place_below M y,
-      place_below M' x,
-      place_left M P x,
-      place_left M P y,
-      place_left M' P x,
-      place_left M' P y,
-      place_right M P x,
-      place_right M P y,
-      place_right M' P x,
-      place_right M' P y,
-    )
+    let hx = h x in let hy = h y in
+    let a = place_left M P x in let b = place_left M P y in let c = place_left M' P x in let d = place_left M' P y in
+    let e = place_right M P x in let f = place_right M P y in let g = place_right M' P x in let i = place_right M' P y in
+    grind (arith, k, place_below M y, place_below M' x)
