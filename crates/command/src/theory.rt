@@ -4,6 +4,7 @@ ghost use Rattle.command.specs.Week.{Week};
 ghost use Rattle.command.specs.Excluded.{Excluded};
 
 // A board that is fine stays fine.
+#[tactic(auto, using(crate::proofs::Staying::stays_fine))]
 pub fn stays_fine_stands() -> u8
     ensures { StaysFine }
 {
@@ -11,6 +12,7 @@ pub fn stays_fine_stands() -> u8
 }
 
 // A week, worked through.
+#[tactic(auto, using(crate::proofs::Examples::week))]
 pub fn week_stands() -> u8
     ensures { Week }
 {
@@ -18,6 +20,7 @@ pub fn week_stands() -> u8
 }
 
 // Rows and ways that one might take for right, and that are not.
+#[tactic(auto, using(crate::proofs::Examples::excluded))]
 pub fn excluded_stands() -> u8
     ensures { Excluded }
 {

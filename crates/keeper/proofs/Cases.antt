@@ -16,7 +16,7 @@ use Rattle.keeper.specs.Engine.{Engine, Ran, ran, run_of}
 use Rattle.keeper.specs.Promise.{shown_for, Refused, RoundShown}
 use Rattle.keeper.specs.Sister.{within, ToldNeeded, DoneFirm}
 use Rattle.keeper.proofs.Simulation.{StepKept}
-use Rattle.keeper.proofs.Unmoved.{comes_keeps, goes_keeps, forward_keeps, unlinks_keeps}
+use Rattle.keeper.proofs.Opened.{comes_keeps, goes_keeps, forward_keeps, unlinks_keeps}
 
 module _ (e : Engine) (n : ℕ) (Sim : List ℕ → Board → Type 0) (m : List ℕ) (r : Board) where
   pub kept_done : (c : Command) (v : Ran) → run_of n e m c ≡ v → refusal r c ≡ None → DoneFirm r c v → Sim v.memory (after r c v.told) →

@@ -18,7 +18,8 @@ use Rattle.keeper.specs.Engine.{action_of}
 use Rattle.keeper.proofs.Size.{guarded_small}
 use Rattle.keeper.specs.Own.{said, went_on, answer, steps, step_fits, StepBy, StepSays}
 use Rattle.keeper.proofs.Writing.{written_few}
-use Rattle.keeper.proofs.Room.{few_answer, front_stands}
+use Rattle.keeper.proofs.OwnSize.{few_answer}
+use Rattle.keeper.proofs.Room.{front_stands}
 
 pub other_size : (m out : List ℕ) → length m ≢ MEMORY → step_fits m out ≡ false
 other_size m out n = grind (arith, nat_tests)

@@ -1,7 +1,8 @@
--- A link that goes backward and can be kept: the row is settled for it, and the memory means the board with the link.
-use Rattle.std.proofs.Common.{◌≡◌, ℕ, ◌<◌, ◌≤◌, true, false, List, [], ◌∷◌, ◌++◌, map, length, None, refl, sym, ap, ap₂, ◌∙◌, subst, arith}
+-- A link that goes backward and can be kept: the row is settled for it, the memory means the board with the link, and what is told makes the row new.
+-- With that each link is made or refused rightly.
+use Rattle.std.proofs.Common.{◌≡◌, ℕ, ◌<◌, ◌≤◌, true, false, List, [], ◌∷◌, ◌++◌, map, length, None, refl, sym, ap, ap₂, ◌∙◌, subst, arith, suc, ◌+◌, ◌-◌, ◌^◌, min, Some, Option, inl, inr}
+use Rattle.std.proofs.lemmas.Bool.{lt-ltb, ltb-true, le-leb, lt-leb, cases_lt, ne_eqb}
 use lib.ListN.{length-map}
-use Rattle.std.proofs.lemmas.Bool.{lt-ltb, ltb-true, le-leb, lt-leb}
 use Rattle.order.specs.declared.board.TheConstants.{CARDS, LINKS}
 use Rattle.order.specs.declared.board.Link.{Link}
 use Rattle.order.specs.declared.board.Refusal.TheVariants.{Full}
@@ -38,17 +39,27 @@ use Rattle.search.specs.SettleLaws.{Settled, Settles}
 use Rattle.search.proofs.RowSettled.{settles as row_settles}
 use Rattle.keeper.specs.Promise.{small_command}
 use Rattle.keeper.specs.Answers.{leaves_pending}
-use Rattle.keeper.specs.Reordering.{moved}
+use Rattle.keeper.specs.Reordering.{moved, reordered}
 use Rattle.keeper.specs.Own.{said, own}
 use Rattle.keeper.specs.Meaning.{card_board, Means}
 use Rattle.keeper.proofs.Simulation.{StepKept}
 use Rattle.keeper.proofs.Opened.{open_stays}
 use Rattle.keeper.proofs.Knowing.{names}
 use Rattle.keeper.proofs.Carrying.{unmarked_kept, same_row, board_of, means_by, Noted, settles}
-use Rattle.keeper.proofs.Saying.{refuses_kept, full_is_not}
-use Rattle.keeper.proofs.Forward.{both, linked_here, links_counted}
-use Rattle.keeper.proofs.Backward.{forgotten_means}
-use Rattle.keeper.proofs.TwoCards.{Seated, leads_is, backward_seats}
+use Rattle.keeper.proofs.Saying.{refuses_kept, full_is_not, step_said}
+use Rattle.keeper.proofs.Forward.{both, linked_here, links_counted, not_found, links_by}
+use Rattle.keeper.proofs.Backward.{forgotten_means, round}
+use Rattle.keeper.proofs.TwoCards.{Seated, leads_is, backward_seats, slots_there}
+use Rattle.order.proofs.Only.{firm_parts}
+use Rattle.keeper.specs.Engine.{run_of, ran, runs}
+use Rattle.keeper.specs.Telling.{told_part}
+use Rattle.keeper.proofs.Cases.{backward_by}
+use Rattle.keeper.proofs.Parts.{Anew}
+use Rattle.keeper.proofs.ToldRuns.{ToldOut, told_run}
+use Rattle.search.specs.Hunt.{meeting}
+use Rattle.search.specs.HuntLaws.{Found}
+use Rattle.search.proofs.Starting.{meets}
+use Rattle.keeper.specs.Linking.{linked as linking}
 
 module _ (m : List ℕ) (M : Means m (card_board m)) (l : Link) (s t : ℕ) (A : Seated m l.from s) (B : Seated m l.to t)
     (n : any (joins (s ⟶ t)) (edges m) ≡ false) (w : cell m SEATS t < cell m SEATS s) (m₁ : List ℕ) (P : Parted m m₁ s t) where
@@ -197,3 +208,68 @@ module _ (m : List ℕ) (M : Means m (card_board m)) (l : Link) (s t : ℕ) (A :
     at_end k N =
         let Q = moved_means in
         subst (Means (leaves_pending k 0)) (sym Q.is) (settles m₃ k Q.ready Q.single Q.long N)
+
+  -- what is told makes the row new, in one part or in two
+  module _ (sm : small_command (Links l) ≡ true) (h : live m < LINKS) (se : said m (Links l) ≡ moved m₁ x) where
+    wide : live m < ENTRIES
+    wide = omega (arith, h)
+
+    abbrev k : List ℕ
+    k = m₃ wide
+
+    abbrev row : List ℕ
+    row = new wide
+
+    K : Means k (board wide)
+    K = moved_means wide
+
+    said_is : said m (Links l) ≡ told_part k low (suc high)
+    unfolding moved
+    said_is =
+        let b = bounds in
+        let j : min (high + 1) (2 ^ 64 - 1) ≡ suc high = omega arith in
+        se ∙ rw (lt-leb LINKS (live m₁) (omega (arith, same_live)))
+        (ap₂ (told_part k) (same_places t) (ap (λ (p : ℕ). min (p + 1) (2 ^ 64 - 1)) (same_places s) ∙ j))
+
+    T : ToldOut k low (suc high)
+    T = let b = bounds in let c = same_count wide in told_run k K.ready.is_row K.long low (suc high) (omega arith) (omega arith)
+
+    runs_so : run_of 3 own m (Links l) ≡ ran (leaves_pending T.memory 0) T.parts [] 0
+    unfolding runs
+    runs_so = rw (step_said m (Links l) _ M.idle sm said_is) T.run
+
+    anew : Anew r.row row low (suc high)
+    anew =
+        let p = (firm_parts r l.from l.to row (is_firm wide)).is_little in
+        rw (sym place_low, sym place_high) (record { long = sym (as_long wide); front = sym p.front; rest = sym p.rest })
+
+    pub moves : StepKept own 3 Means m r (Links l)
+    moves =
+        backward_by own 3 Means m r (leaves_pending T.memory 0) l (allowed h) goes_back row (is_firm wide) (keeps_all wide) T.parts
+        (T.makes r.row (subst (λ (xs : List ℕ). Anew r.row xs low (suc high)) (sym (new_cards wide)) anew) ∙ new_cards wide)
+        (rw (place_low, place_high) T.inside) runs_so (at_end wide T.memory T.only)
+
+-- a link that goes backward, whatever the search finds; and so each link
+module _ (m : List ℕ) (M : Means m (card_board m)) (l : Link) (sm : small_command (Links l) ≡ true) where
+  module _ (s t : ℕ) (A : Seated m l.from s) (B : Seated m l.to t) (n : any (joins (s ⟶ t)) (edges m) ≡ false) (ne : s ≡ t → ⊥)
+      (w : cell m SEATS t < cell m SEATS s) where
+    said_so : said m (Links l) ≡ reordered m (s ⟶ t)
+    unfolding said linking
+    said_so = rw (slots_there m M.ready l s t A B, not_found m M l s t A B n, ne_eqb s t ne, lt-ltb (cell m SEATS t) (cell m SEATS s) w) refl
+
+    by_answer : (y : Option Link) → (meeting m (s ⟶ t)).answer ≡ y → Found m (meeting m (s ⟶ t)).memory s t y → StepKept own 3 Means m (card_board m) (Links l)
+    unfolding reordered
+    by_answer (Some y) e T = round m M l sm s t A B n y T (said_so ∙ rw e refl)
+    by_answer None e P =
+        let m₁ = (meeting m (s ⟶ t)).memory in
+        let se : said m (Links l) ≡ moved m₁ (s ⟶ t) = said_so ∙ rw e refl in
+        elim (cases_lt (live m) LINKS) [
+          | inl h ↦ moves m M l s t A B n w m₁ P sm h se
+          | inr h ↦ full m M l s t A B n w m₁ P sm se h
+        ]
+
+    pub back : StepKept own 3 Means m (card_board m) (Links l)
+    back = by_answer (meeting m (s ⟶ t)).answer refl (meets m s t M.ready A.in_use B.in_use w)
+
+  pub links_means : StepKept own 3 Means m (card_board m) (Links l)
+  links_means = links_by m M l sm back

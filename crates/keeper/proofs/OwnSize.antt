@@ -1,5 +1,5 @@
--- Each step of the keeper's engine keeps the size of the memory, and its answer fits what carries it.
-use Rattle.std.proofs.Common.{◌≡◌, ℕ, zero, suc, ◌+◌, ◌-◌, ◌^◌, ◌<◌, ◌≤◌, min, Bool, true, false, cond, eqb, ltb, leb, List, [], ◌∷◌, length, take, Some, None, Ok, Err, Option, Result, refl, arith, length-take}
+-- Each step of the keeper's engine keeps the size of the memory, and its answer fits what carries it; no answer has more numbers than the output has room for.
+use Rattle.std.proofs.Common.{◌≡◌, ℕ, zero, suc, ◌+◌, ◌-◌, ◌^◌, ◌<◌, ◌≤◌, min, Bool, true, false, cond, eqb, ltb, leb, List, [], ◌∷◌, map, length, take, Some, None, Ok, Err, Option, Result, refl, arith, length-take}
 use lib.ListN.{length-map}
 use Rattle.std.proofs.lemmas.Bool.{and_parts, and_from, lt-ltb, ltb-true}
 use Rattle.order.specs.declared.board.TheConstants.{CARDS, LINKS}
@@ -42,29 +42,13 @@ use Rattle.keeper.specs.Telling.{cards_from, middle, left_to_tell, end_at, told_
 use Rattle.keeper.specs.Reordering.{round_cards, shown_round, moved, reordered}
 use Rattle.keeper.specs.Linking.{slots_found, unlinked, put_in, linked}
 use Rattle.keeper.specs.Own.{left, shown_places, said, finished, went_on, answer, steps, own}
-use Rattle.keeper.proofs.Size.{small_each, small_take, small_map, size_same, size_then, size_writes, cond_holds, guarded_fits, fits_tells, fits_shows}
+use Rattle.keeper.proofs.Size.{small_each, small_take, small_map, size_same, size_then, size_writes, cond_holds, guarded_fits, fits_tells, fits_shows, steady_zeros}
 use Rattle.keeper.proofs.Carrying.{noted, noted_more}
-use Rattle.keeper.proofs.Zeros.{steady_zeros}
+use Rattle.keeper.proofs.TellingParts.{length_middle}
 use Rattle.search.proofs.Touching.{writes_meeting}
 use Rattle.keeper.proofs.Bounds.{settled_writes}
 use Rattle.search.proofs.SettleFrames.{writes_forgotten}
 use Rattle.search.proofs.Joining.{way_few}
-
--- what the crates below do to the memory
-pub size_inserted : (m : List ℕ) (x : Link) → KeepsSize m (inserted m x)
-size_inserted m x = size_writes link_columns m _ (inserted_writes m x)
-
-pub size_removed : (m : List ℕ) (x : Link) → KeepsSize m (removed m x).memory
-size_removed m x = size_writes link_columns m _ (removed_writes m x)
-
-pub size_meeting : (m : List ℕ) (x : Link) → KeepsSize m (meeting m x).memory
-size_meeting m x = size_writes _ m _ (writes_meeting m x)
-
-pub size_forgotten : (m : List ℕ) → KeepsSize m (forgotten m)
-size_forgotten m = size_writes _ m _ (writes_forgotten m)
-
-pub size_settled : (m : List ℕ) → KeepsSize m (settled m)
-size_settled m = size_writes _ m _ (settled_writes m)
 
 pub size_pending : (m m₁ : List ℕ) (k : ℕ) → k < 2 ^ 64 → KeepsSize m m₁ → KeepsSize m (leaves_pending m₁ k)
 size_pending m m₁ k l b = size_then m m₁ _ b (size_writes columns m₁ _ (noted m₁ m₁ k l (same columns m₁)))
@@ -75,6 +59,13 @@ Any o = Unit {0}
 -- an answer to a step from the memory m
 abbrev pub Sized : List ℕ → Answer → Type 0
 Sized m a = KeepsSize m a.memory × (all_small m ≡ true → fits (action_of a.act a.numbers) ≡ true)
+
+-- few enough numbers for the output; and both, the second if P holds
+abbrev pub Few : Answer → Type 0
+Few a = length a.numbers ≤ OUTPUT
+
+abbrev Good : Type 0 → List ℕ → Answer → Type 0
+Good P m a = Few a × (P → Sized m a)
 
 refusal_fits : (e : Refusal) → fits (action_of (Err (Board e)) []) ≡ true
 unfolding fits
@@ -113,14 +104,14 @@ unfolding all_small every cards_from
 small_from zero m p h = refl
 small_from (suc n) m p h = and_from _ _ (lt-ltb _ _ (small_cell m IDS _ (small_each m h))) (small_from n m (next_seat m p + 1) h)
 
-sized_told : (m : List ℕ) (i j : ℕ) → Sized m (told_part m i j)
+good_told : {P : Type 0} (m : List ℕ) (i j : ℕ) → Good P m (told_part m i j)
 unfolding told_part middle
-sized_told m i j =
+good_told m i j =
     let e = end_at m j in
     let n = min (e - min i e) TOLD in
     let ks = middle m (min i e) n in (
-      size_left m (min i e + n) e (omega arith) (omega arith),
-      λ h. fits_tells (min i e) (take n ks) (omega arith) (omega (arith, length-take n ks)) (small_take n ks (small_from n m _ h)),
+      omega (arith, length_middle m (min i e) n),
+      λ _. (size_left m (min i e + n) e (omega arith) (omega arith), λ h. fits_tells (min i e) (take n ks) (omega arith) (omega (arith, length-take n ks)) (small_take n ks (small_from n m _ h))),
     )
 
 -- numbers are shown
@@ -131,12 +122,15 @@ pub sized_shows : (m m₁ : List ℕ) (n : ℕ) (ks : List ℕ) → KeepsSize m 
     Sized m (shows_of m₁ n ks)
 sized_shows m m₁ n ks b l s = (b, λ h. fits_shows (take n ks) (omega (arith, length-take n ks)) (small_take n ks (s h)))
 
-sized_round : (m : List ℕ) (x y : Link) → Sized m (shown_round m x y)
+good_round : {P : Type 0} (m : List ℕ) (x y : Link) → Good P m (shown_round m x y)
 unfolding shown_round round_cards
-sized_round m x y =
+good_round m x y =
     let w = way (cell m VIA) CARDS x y in
-    sized_shows m _ _ _ (size_pending m _ 2 (omega arith) (size_forgotten m)) (omega (arith, length-map w (cell m IDS), way_few (cell m VIA) CARDS x y))
-    (λ h. small_map (cell m IDS) (λ k. small_cell m IDS k (small_each m h)) w)
+    let f : length (map (cell m IDS) w) ≤ OUTPUT = omega (arith, length-map w (cell m IDS), way_few (cell m VIA) CARDS x y) in (
+      f,
+      λ _. sized_shows m _ _ _ (size_pending m _ 2 (omega arith) (size_writes _ m _ (writes_forgotten m))) f
+          (λ h. small_map (cell m IDS) (λ k. small_cell m IDS k (small_each m h)) w),
+    )
 
 pub small_one : (k : ℕ) → k < 2 ^ 64 → all_small (k ∷ []) ≡ true
 unfolding all_small every
@@ -158,48 +152,60 @@ place_small m k =
     let c = small_cell m COUNT 0 (small_each m h) in
     placed_below m (cell m SEATS s) (2 ^ 64) z c)
 
-sized_places : (m : List ℕ) (a b : ℕ) → Sized m (shown_places m a b)
-sized_places m a b =
-    given_holds (PlaceSmall m) (Sized m) (place_found m a) _ _ (place_small m a) (sized_refuses m m (size_same m) Missing) (λ p u.
-    given_holds (PlaceSmall m) (Sized m) (place_found m b) _ _ (place_small m b) (sized_refuses m m (size_same m) Missing) (λ q v.
-    sized_shows m _ 2 _ (size_pending m m 1 (omega arith) (size_same m)) (omega arith) (λ h. small_two p q (u h) (v h))))
+module _ {P : Type 0} (m : List ℕ) where
+  good_refused : (e : Refusal) → Good P m (quiet (refuses m e))
+  good_refused e = (omega arith, λ _. sized_refuses m m (size_same m) e)
+
+  good_then : (m₁ : List ℕ) (a : Answer) → KeepsSize m m₁ → Good P m₁ a → Good P m a
+  good_then m₁ a b g = (g.0, λ q. sized_then m m₁ b a (g.1 q))
+
+  good_places : (a b : ℕ) → Good P m (shown_places m a b)
+  good_places a b =
+      given_holds (PlaceSmall m) (Good P m) (place_found m a) _ _ (place_small m a) (good_refused Missing) (λ p u.
+      given_holds (PlaceSmall m) (Good P m) (place_found m b) _ _ (place_small m b) (good_refused Missing) (λ q v. (
+        omega arith,
+        λ _. sized_shows m _ 2 _ (size_pending m m 1 (omega arith) (size_same m)) (omega arith) (λ h. small_two p q (u h) (v h)),
+      )))
 
 -- links are made and taken back
-sized_moved : (m : List ℕ) (x : Link) → Sized m (moved m x)
+good_moved : {P : Type 0} (m : List ℕ) (x : Link) → Good P m (moved m x)
 unfolding moved
-sized_moved m x =
-    sized_cond m (leb LINKS (live m)) _ _ (sized_refuses m (forgotten m) (size_forgotten m) Full)
-    (sized_then m (inserted (settled m) x) (size_then m (settled m) _ (size_settled m) (size_inserted (settled m) x)) _
-    (sized_told (inserted (settled m) x) (place_at m x.to) (min (place_at m x.from + 1) (2 ^ 64 - 1))))
+good_moved {P} m x =
+    cond_holds (Good P m) (leb LINKS (live m)) _ _ (omega arith, λ _. sized_refuses m (forgotten m) (size_writes _ m _ (writes_forgotten m)) Full)
+    (good_then m (inserted (settled m) x) _
+    (size_then m (settled m) _ (size_writes _ m _ (settled_writes m)) (size_writes link_columns _ _ (inserted_writes (settled m) x)))
+    (good_told (inserted (settled m) x) (place_at m x.to) (min (place_at m x.from + 1) (2 ^ 64 - 1))))
 
-sized_reordered : (m : List ℕ) (x : Link) → Sized m (reordered m x)
+good_reordered : {P : Type 0} (m : List ℕ) (x : Link) → Good P m (reordered m x)
 unfolding reordered
-sized_reordered m x =
+good_reordered {P} m x =
     let n = (meeting m x).memory in
-    let s = size_meeting m x in
-    given_holds Any (Sized m) (meeting m x).answer _ _ tt (sized_then m n s _ (sized_moved n x)) (λ y _. sized_then m n s _ (sized_round n x y))
+    let s = size_writes _ m _ (writes_meeting m x) in
+    given_holds Any (Good P m) (meeting m x).answer _ _ tt (good_then m n _ s (good_moved n x)) (λ y _. good_then m n _ s (good_round n x y))
 
 sized_put : (m : List ℕ) (x : Link) → Sized m (quiet (put_in m x))
 unfolding put_in
 sized_put m x =
-    cond_holds (λ (e : Ended). Sized m (quiet e)) (leb LINKS (live m)) _ _ (sized_refuses m m (size_same m) Full) (sized_done m _ (size_inserted m x))
+    cond_holds (λ (e : Ended). Sized m (quiet e)) (leb LINKS (live m)) _ _ (sized_refuses m m (size_same m) Full)
+    (sized_done m _ (size_writes link_columns m _ (inserted_writes m x)))
 
-sized_linked : (m : List ℕ) (l : Link) → l.from < 2 ^ 64 → Sized m (linked m l)
+good_linked : (m : List ℕ) (l : Link) → Good (l.from < 2 ^ 64) m (linked m l)
 unfolding linked
-sized_linked m l u =
-    given_holds Any (Sized m) (slots_found m l) _ _ tt (sized_refuses m m (size_same m) Missing) (λ x _.
-    given_holds Any (Sized m) (entry_found m x) _ _ tt
-    (sized_cond m (eqb x.from x.to) _ _
-    (sized_shows m _ 1 _ (size_pending m m 2 (omega arith) (size_same m)) (omega arith) (λ _. small_one l.from u))
-    (sized_cond m (ltb (cell m SEATS x.to) (cell m SEATS x.from)) _ _ (sized_reordered m x) (sized_put m x)))
-    (λ e _. sized_refuses m m (size_same m) Exists))
+good_linked m l =
+    let G = Good (l.from < 2 ^ 64) m in
+    given_holds Any G (slots_found m l) _ _ tt (good_refused m Missing) (λ x _.
+    given_holds Any G (entry_found m x) _ _ tt
+    (cond_holds G (eqb x.from x.to) _ _
+    (omega arith, λ u. sized_shows m _ 1 _ (size_pending m m 2 (omega arith) (size_same m)) (omega arith) (λ _. small_one l.from u))
+    (cond_holds G (ltb (cell m SEATS x.to) (cell m SEATS x.from)) _ _ (good_reordered m x) (omega arith, λ _. sized_put m x)))
+    (λ e _. good_refused m Exists))
 
 sized_unlinked : (m : List ℕ) (l : Link) → Sized m (quiet (unlinked m l))
 unfolding unlinked
 sized_unlinked m l =
     given_holds Any (λ (e : Ended). Sized m (quiet e)) (slots_found m l) _ _ tt (sized_refuses m m (size_same m) Missing) (λ x _.
-    by_result_holds (λ (e : Ended). Sized m (quiet e)) (removed m x).answer _ _ (λ _. sized_done m _ (size_removed m x))
-    (λ _. sized_refuses m _ (size_removed m x) Missing))
+    by_result_holds (λ (e : Ended). Sized m (quiet e)) (removed m x).answer _ _ (λ _. sized_done m _ (size_writes link_columns _ _ (removed_writes m x)))
+    (λ _. sized_refuses m _ (size_writes link_columns _ _ (removed_writes m x)) Missing))
 
 -- cards come and go
 sized_came : (m : List ℕ) (k : ℕ) → k < 2 ^ 64 → Sized m (said m (Comes k))
@@ -216,13 +222,13 @@ sized_gone m k =
     (λ s. sized_done m _ (size_then m n _ w (size_writes link_columns n _ (removed_all_writes n s)))) (λ e. sized_refuses m _ w e)
 
 -- each step
-sized_said : (m : List ℕ) (c : Command) → small_command c ≡ true → Sized m (said m c)
+good_said : (m : List ℕ) (c : Command) → Good (small_command c ≡ true) m (said m c)
 unfolding said small_command
-sized_said m (Comes k) h = sized_came m k (ltb-true _ _ h)
-sized_said m (Goes k) h = sized_gone m k
-sized_said m (Links l) h = sized_linked m l (ltb-true _ _ (and_parts (ltb l.from (2 ^ 64)) _ h).0)
-sized_said m (Unlinks l) h = sized_unlinked m l
-sized_said m (Places a b) h = sized_places m a b
+good_said m (Comes k) = (omega arith, λ h. sized_came m k (ltb-true _ _ h))
+good_said m (Goes k) = (omega arith, λ _. sized_gone m k)
+good_said m (Links l) = let g = good_linked m l in (g.0, λ h. g.1 (ltb-true _ _ (and_parts (ltb l.from (2 ^ 64)) _ h).0))
+good_said m (Unlinks l) = (omega arith, λ _. sized_unlinked m l)
+good_said m (Places a b) = good_places m a b
 
 finished_fits : (a b : Bool) → fits (action_of (cond a (Ok Done) (cond b (Err (Board Cycle)) (Err Idle))) []) ≡ true
 unfolding fits
@@ -233,18 +239,27 @@ finished_fits false false = refl
 sized_finished : (m : List ℕ) → Sized m (quiet (finished m))
 sized_finished m = (size_pending m m 0 (omega arith) (size_same m), λ _. finished_fits (eqb (pending m) 1) (eqb (pending m) 2))
 
-pub sized_on : (m : List ℕ) → Sized m (went_on m)
+good_on : {P : Type 0} (m : List ℕ) → Good P m (went_on m)
 unfolding went_on
-sized_on m = sized_cond m (eqb (pending m) 3) _ _ (sized_told m (cell m MORE_FROM 0) (cell m MORE_TO 0)) (sized_finished m)
+good_on {P} m = cond_holds (Good P m) (eqb (pending m) 3) _ _ (good_told m (cell m MORE_FROM 0) (cell m MORE_TO 0)) (omega arith, λ _. sized_finished m)
+
+pub sized_on : (m : List ℕ) → Sized m (went_on m)
+sized_on m = (good_on {P = Unit {0}} m).1 tt
 
 pub sized_busy : (m : List ℕ) → Sized m (quiet (ends (Err Busy) m))
 unfolding fits
 sized_busy m = (size_same m, λ _. refl)
 
-pub sized_answer : (m : List ℕ) (ev : Event) → small_event ev ≡ true → Sized m (answer m ev)
+good_answer : (m : List ℕ) (ev : Event) → Good (small_event ev ≡ true) m (answer m ev)
 unfolding answer small_event
-sized_answer m (Said c) h = sized_cond m (eqb (pending m) 0) _ _ (sized_said m c h) (sized_busy m)
-sized_answer m Next h = sized_on m
+good_answer m (Said c) = cond_holds (Good (small_command c ≡ true) m) (eqb (pending m) 0) _ _ (good_said m c) (omega arith, λ _. sized_busy m)
+good_answer m Next = good_on m
+
+pub sized_answer : (m : List ℕ) (ev : Event) → small_event ev ≡ true → Sized m (answer m ev)
+sized_answer m ev = (good_answer m ev).1
+
+pub few_answer : (m : List ℕ) (ev : Event) → Few (answer m ev)
+few_answer m ev = (good_answer m ev).0
 
 pub own_steady : Steady own
 own_steady = steady_zeros steps (λ m ev h. (sized_answer m ev h).0)

@@ -1,5 +1,5 @@
 -- A command that is played goes as it runs on the engine: the same memory after it, and refused for the reason by which the run ended.
-use Rattle.std.proofs.Common.{◌≡◌, ℕ, zero, suc, ◌≤◌, true, cond, ◌&&◌, ltb, leb, List, [], length, take, drop, Ok, Err, Result, sym, refl, ap, ◌∙◌, subst, inl, inr, arith, length-append, length-drop}
+use Rattle.std.proofs.Common.{◌≡◌, ℕ, zero, suc, ◌≤◌, true, cond, ◌&&◌, eqb, ltb, leb, List, [], length, take, drop, Ok, Err, Result, sym, refl, ap, ◌∙◌, subst, inl, inr, arith, length-append, length-drop}
 use lib.ListN.{length-replicate}
 use Rattle.std.proofs.lemmas.Bool.Decides.{nat_tests as tests}
 use Rattle.std.proofs.lemmas.Bool.{cases_Bool}
@@ -29,7 +29,7 @@ use Rattle.keeper.proofs.Ends.{Go}
 use Rattle.keeper.proofs.Size.{guarded_small}
 use Rattle.keeper.proofs.OwnSize.{sized_answer}
 use Rattle.keeper.proofs.Saying.{number_fits}
-use Rattle.keeper.proofs.Wholly.{kept}
+use Rattle.keeper.proofs.Wholly.{kept, whole_own, whole_in_own}
 
 -- done if the run was done, and refused by the board if the run was
 abbrev pub SoEnded : ℕ → List ℕ → Result (Unit {0}) Reason → List ℕ → Type 0
@@ -38,54 +38,40 @@ SoEnded k m o m₁ = (k ≡ 0 → (o ≡ Ok tt) × (m₁ ≡ m)) × ((w : Refusa
 abbrev pub Agrees : Ran → Ending → Type 0
 Agrees v p = SoEnded v.end v.memory p.answer.outcome p.memory
 
+by_number : ℕ → Refusal
+by_number n = cond (eqb n (number Missing)) Missing (cond (eqb n (number Exists)) Exists (cond (eqb n (number Cycle)) Cycle Full))
+
+by_number_is : (w : Refusal) → by_number (number w) ≡ w
+unfolding by_number
+by_number_is Missing = refl
+by_number_is Exists = refl
+by_number_is Cycle = refl
+by_number_is Full = refl
+
 number_once : (v w : Refusal) → number v ≡ number w → v ≡ w
-number_once Missing Missing e = refl
-number_once Missing Exists e = absurd (omega arith)
-number_once Missing Cycle e = absurd (omega arith)
-number_once Missing Full e = absurd (omega arith)
-number_once Exists Missing e = absurd (omega arith)
-number_once Exists Exists e = refl
-number_once Exists Cycle e = absurd (omega arith)
-number_once Exists Full e = absurd (omega arith)
-number_once Cycle Missing e = absurd (omega arith)
-number_once Cycle Exists e = absurd (omega arith)
-number_once Cycle Cycle e = refl
-number_once Cycle Full e = absurd (omega arith)
-number_once Full Missing e = absurd (omega arith)
-number_once Full Exists e = absurd (omega arith)
-number_once Full Cycle e = absurd (omega arith)
-number_once Full Full e = refl
+number_once v w e = sym (by_number_is v) ∙ ap by_number e ∙ by_number_is w
 
 -- an end that is neither of them
 pub neither : (k : ℕ) (m : List ℕ) (o : Result (Unit {0}) Reason) (m₁ : List ℕ) → (k ≡ 0 → ⊥) → ((w : Refusal) → k ≡ number w → ⊥) → SoEnded k m o m₁
 neither k m o m₁ h g = ((λ z. absurd (h z)), λ w z. absurd (g w z))
 
 pub high : (k : ℕ) → 1000 ≤ k → (w : Refusal) → k ≡ number w → ⊥
-high k l w e = let f = (number_fits w).1 in omega arith
-
-three_up : (w : Refusal) → (3 ≤ number w) × (number w ≤ 7)
-three_up Missing = (omega arith, omega arith)
-three_up Exists = (omega arith, omega arith)
-three_up Cycle = (omega arith, omega arith)
-three_up Full = (omega arith, omega arith)
+high k l w e = let f = number_fits w in omega arith
 
 -- the end of a run that the board refused
 ended_by : (v : Refusal) → cond (leb 1 (number v) && ltb (number v) 1000) (number v) 1001 ≡ number v
-ended_by Missing = refl
-ended_by Exists = refl
-ended_by Cycle = refl
-ended_by Full = refl
+ended_by v = let f = number_fits v in grind (arith, tests)
 
 board_agrees : (v : Refusal) (k : ℕ) (m : List ℕ) → k ≡ number v → SoEnded k m (Err (ByBoard v)) m
 board_agrees v k m e =
-    ((λ z. absurd (omega (arith, (three_up v).0))), λ w z. (ap (λ (x : Refusal). Err (ByBoard x)) (number_once v w (sym e ∙ z)), refl))
+    ((λ z. absurd (omega (arith, (number_fits v).0))), λ w z. (ap (λ (x : Refusal). Err (ByBoard x)) (number_once v w (sym e ∙ z)), refl))
 
 module _ (go : Go) (on : List ℕ → List ℕ → ℕ → Ending) (ts : List Told) (ss : List (List ℕ)) (m out : List ℕ) (s : ℕ) where
   refused_agrees : (e : Reason) (ks : List ℕ) → Agrees (one_act go ts ss m (action_of (Err e) ks)) (by_act on m out s (Err e))
   unfolding one_act by_act
   refused_agrees Unfit ks = neither 1001 _ _ _ (λ z. omega arith) (high 1001 (omega arith))
-  refused_agrees Idle ks = neither 1 _ _ _ (λ z. omega arith) (λ w z. omega (arith, (three_up w).0))
-  refused_agrees Busy ks = neither 2 _ _ _ (λ z. omega arith) (λ w z. omega (arith, (three_up w).0))
+  refused_agrees Idle ks = neither 1 _ _ _ (λ z. omega arith) (λ w z. omega (arith, (number_fits w).0))
+  refused_agrees Busy ks = neither 2 _ _ _ (λ z. omega arith) (λ w z. omega (arith, (number_fits w).0))
   refused_agrees (ByBoard v) ks = board_agrees v _ m (ended_by v)
 
   pub act_agrees : ((ts₁ : List Told) (ss₁ : List (List ℕ)) (s₁ : ℕ) → Agrees (go m ts₁ ss₁) (on m out s₁)) →
@@ -96,7 +82,7 @@ module _ (go : Go) (on : List ℕ → List ℕ → ℕ → Ending) (ts : List To
     | inr t ↦ rw t (neither 1001 _ _ _ (λ z. omega arith) (high 1001 (omega arith)))
   ]
   act_agrees h (Ok (Shows n)) ks = h ts _ n
-  act_agrees h (Ok Done) ks = ((λ _. (refl, refl)), λ w z. absurd (omega (arith, (three_up w).0)))
+  act_agrees h (Ok Done) ks = ((λ _. (refl, refl)), λ w z. absurd (omega (arith, (number_fits w).0)))
   act_agrees h (Err e) ks = refused_agrees e ks
 
 stepped_fits : (m : List ℕ) (ev : Event) (out : List ℕ) → length m ≡ MEMORY → OUTPUT ≤ length out →
@@ -138,3 +124,5 @@ plays_right m r c out l a M f sm o =
 pub plays_unfit : PlaysUnfit
 unfolding plays by_act stepped
 plays_unfit m c out f = rw f
+
+pub ruleset playing = (plays_right, whole_own, whole_in_own)

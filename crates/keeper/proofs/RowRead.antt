@@ -1,14 +1,10 @@
 -- The row that is read from a memory that means a board is the board's.
-use Rattle.std.proofs.Common.{◌≡◌, ℕ, ◌≢◌, List, ◌++◌, length, drop, refl, sym, ap, ◌∙◌, arith}
-use Rattle.std.proofs.lemmas.Bool.{eq-eqb, ne_eqb}
+use Rattle.std.proofs.Common.{◌≡◌, ℕ, List, ◌++◌, length, drop, sym, ap, ◌∙◌, arith}
 use Rattle.std.proofs.lemmas.List.{take_all}
 use Rattle.order.specs.Board.{Board}
-use Rattle.memory.specs.declared.column.TheConstants.{MEMORY}
 use Rattle.row.specs.Meaning.{count, cards}
-use Rattle.row.specs.Telling.{told, told_count}
 use Rattle.row.proofs.Present.{length_cards}
 use Rattle.row.proofs.Tellings.{tells_middle}
-use Rattle.keeper.specs.Playing.{row_read, read_count}
 use Rattle.keeper.specs.PlayLaws.{ReadsRow}
 
 pub reads_row : ReadsRow
@@ -22,22 +18,3 @@ reads_row m r out M h =
       t.1 ∙ ap (λ (xs : List ℕ). xs ++ drop (count m) out) (take_all (count m) (cards m) (omega arith) ∙ sym e)
           ∙ ap (λ (k : ℕ). r.row ++ drop k out) (sym n),
     )
-
--- reading a memory that fits, and one that doesn't
-pub reads_is : (m out : List ℕ) → length m ≡ MEMORY → told m 0 (count m) out ≡ row_read m out
-unfolding row_read
-reads_is m out h = rw (eq-eqb (length m) MEMORY h) refl
-
-pub counts_is : (m out : List ℕ) → length m ≡ MEMORY → told_count m 0 (count m) out ≡ read_count m out
-unfolding read_count
-counts_is m out h = rw (eq-eqb (length m) MEMORY h) refl
-
-pub reads_none : (m out : List ℕ) → length m ≢ MEMORY → out ≡ row_read m out
-unfolding row_read
-reads_none m out h = rw (ne_eqb (length m) MEMORY h) refl
-
-pub counts_none : (m out : List ℕ) → length m ≢ MEMORY → 0 ≡ read_count m out
-unfolding read_count
-counts_none m out h = rw (ne_eqb (length m) MEMORY h) refl
-
-pub ruleset reading = (reads_is, counts_is, reads_none, counts_none)

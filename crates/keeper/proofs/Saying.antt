@@ -1,5 +1,5 @@
 -- A step of the engine, by what is said.
-use Rattle.std.proofs.Common.{◌≡◌, ℕ, ◌<◌, ◌≤◌, true, ◌≢◌, List, [], Some, Ok, Err, ap, ◌∙◌, arith}
+use Rattle.std.proofs.Common.{◌≡◌, ℕ, ◌≤◌, true, ◌≢◌, List, [], Some, Ok, Err, ap, ◌∙◌, arith}
 use Rattle.std.proofs.lemmas.Bool.{eq-eqb, ne_eqb}
 use Rattle.command.specs.declared.command.Command.{Command}
 use Rattle.order.specs.declared.board.Refusal.{Refusal}
@@ -41,7 +41,7 @@ went_round m e = rw (ne_eqb (pending m) 3 (λ z. omega arith), ne_eqb (pending m
 pub run_done : (m m₁ : List ℕ) (c : Command) → pending m ≡ 0 → small_command c ≡ true → said m c ≡ quiet (ends (Ok Done) m₁) → run_of 3 own m c ≡ ran m₁ [] [] 0
 run_done m m₁ c i sm e = done_at_once own m m₁ (Said c) (step_said m c _ i sm e)
 
-pub number_fits : (w : Refusal) → (1 ≤ number w) × (number w < 1000)
+pub number_fits : (w : Refusal) → (3 ≤ number w) × (number w ≤ 7)
 number_fits Missing = (omega arith, omega arith)
 number_fits Exists = (omega arith, omega arith)
 number_fits Cycle = (omega arith, omega arith)
@@ -49,7 +49,7 @@ number_fits Full = (omega arith, omega arith)
 
 pub run_refused : (m m₁ : List ℕ) (c : Command) (w : Refusal) → pending m ≡ 0 → small_command c ≡ true → said m c ≡ quiet (refuses m₁ w) →
     run_of 3 own m c ≡ ran m₁ [] [] (number w)
-run_refused m m₁ c w i sm e = refused_at_once own m m₁ (Said c) (number w) (number_fits w).0 (number_fits w).1 (step_said m c _ i sm e)
+run_refused m m₁ c w i sm e = let f = number_fits w in refused_at_once own m m₁ (Said c) (number w) (omega arith) (omega arith) (step_said m c _ i sm e)
 
 -- refused for a reason but that it would go round
 pub refuses_kept : (Sim : List ℕ → Board → Type 0) (m m₁ : List ℕ) (r : Board) (c : Command) (w : Refusal) → pending m ≡ 0 → small_command c ≡ true →

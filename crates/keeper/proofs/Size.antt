@@ -1,6 +1,7 @@
 -- Memory keeps its length, and its numbers stay below 2^64, through what is written; and answers fit what carries them.
-use Rattle.std.proofs.Common.{◌≡◌, ℕ, zero, suc, ◌^◌, ◌<◌, ◌≤◌, Bool, true, cond, List, [], ◌∷◌, map, length, take, refl, ◌∙◌, inl, inr, arith}
+use Rattle.std.proofs.Common.{◌≡◌, ℕ, zero, suc, ◌^◌, ◌<◌, ◌≤◌, Bool, true, cond, List, [], ◌∷◌, map, length, take, refl, ◌∙◌, inl, inr, arith, eqb, replicate}
 use Rattle.std.proofs.lemmas.Bool.{cases_Bool, cond_both, and_parts, and_from, lt-ltb, ltb-true, le-leb}
+use lib.ListN.{length-replicate}
 use Rattle.order.specs.declared.board.TheConstants.{CARDS}
 use Rattle.order.specs.Lists.{every}
 use Rattle.order.proofs.Filters.{every_take}
@@ -11,8 +12,9 @@ use Rattle.keeper.specs.declared.layout.TheConstants.{TOLD, OUTPUT}
 use Rattle.keeper.specs.declared.event.Event.{Event}
 use Rattle.keeper.specs.declared.event.Event.TheVariants.{Said, Next}
 use Rattle.keeper.specs.Engine.{tells, shows, Step}
-use Rattle.keeper.specs.Promise.{all_small, small_command}
+use Rattle.keeper.specs.Promise.{all_small, small_command, Steady}
 use Rattle.keeper.specs.Sized.{small_event, guarded, KeepsSize, fits, Fits}
+use Rattle.memory.specs.declared.column.TheConstants.{MEMORY}
 
 -- small numbers, one by one
 pub small_each : (m : List ℕ) → all_small m ≡ true → Small m
@@ -86,3 +88,18 @@ fits_tells i ks l u h = and_from _ _ (le-leb _ _ l) (and_from _ _ (le-leb _ _ u)
 pub fits_shows : (ks : List ℕ) → length ks ≤ OUTPUT → all_small ks ≡ true → fits (shows ks) ≡ true
 unfolding fits
 fits_shows ks u h = and_from _ _ (le-leb _ _ u) h
+
+-- a memory of zeros at the start, and a guarded step that keeps its size, are steady
+every_replicate : (f : ℕ → Bool) (n v : ℕ) → f v ≡ true → every f (replicate n v) ≡ true
+unfolding every
+every_replicate f zero v h = refl
+every_replicate f (suc n) v h = and_from _ _ h (every_replicate f n v h)
+
+steady_from : (n : ℕ) (f : List ℕ → Event → Step) → n ≤ MEMORY →
+    ((m : List ℕ) (ev : Event) → small_event ev ≡ true → KeepsSize m (f m ev).memory) → Steady (record { start = replicate n 0; step = guarded f })
+unfolding Steady
+steady_from n f l k = (omega (arith, length-replicate {A = ℕ} n 0), every_replicate (λ m. eqb m 0) n 0 refl, guarded_keeps f k)
+
+pub steady_zeros : (f : List ℕ → Event → Step) → ((m : List ℕ) (ev : Event) → small_event ev ≡ true → KeepsSize m (f m ev).memory) →
+    Steady (record { start = replicate MEMORY 0; step = guarded f })
+steady_zeros f k = steady_from MEMORY f (omega arith) k

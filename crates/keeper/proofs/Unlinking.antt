@@ -27,7 +27,7 @@ use Rattle.keeper.specs.Promise.{small_command}
 use Rattle.keeper.specs.Linking.{slots_found, unlinked}
 use Rattle.keeper.specs.Own.{said, own}
 use Rattle.keeper.specs.Meaning.{card_board, Means}
-use Rattle.keeper.proofs.Unmoved.{unlinks_keeps}
+use Rattle.keeper.proofs.Opened.{unlinks_keeps}
 use Rattle.keeper.proofs.Simulation.{StepKept}
 use Rattle.keeper.proofs.Cases.{unlinks_kept}
 use Rattle.keeper.proofs.Knowing.{names, fine_cards}

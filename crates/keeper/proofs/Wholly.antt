@@ -26,12 +26,11 @@ use Rattle.keeper.specs.Own.{own}
 use Rattle.keeper.specs.Meaning.{card_board, Means}
 use Rattle.keeper.proofs.Carrying.{ready_of, board_of}
 use Rattle.keeper.proofs.Simulation.{StepKept, Kept, whole_in, soon_is_more}
-use Rattle.keeper.proofs.OwnSize.{own_steady}
-use Rattle.keeper.proofs.CardsCome.{comes_means}
-use Rattle.keeper.proofs.CardsGo.{goes_means}
-use Rattle.keeper.proofs.Placing.{places_means}
+use Rattle.keeper.proofs.Fitting.{written_says}
+use Rattle.keeper.proofs.OwnSize.{own_steady, own_fits}
+use Rattle.keeper.proofs.Cards.{comes_means, goes_means, places_means}
 use Rattle.keeper.proofs.Unlinking.{unlinks_means}
-use Rattle.keeper.proofs.ToldParts.{links_means}
+use Rattle.keeper.proofs.Moving.{links_means}
 
 -- each command, from the board that the memory means on
 each : (m : List ℕ) (c : Command) → Means m (card_board m) → small_command c ≡ true → StepKept own 3 Means m (card_board m) c
@@ -80,3 +79,6 @@ whole_in_own = whole_in own 3 Means own_steady kept at_start
 
 pub whole_own : Whole own
 whole_own = soon_is_more 3 own whole_in_own
+
+-- so the steps whose numbers are all written are the engine's
+pub ruleset engine_steps = (written_says, whole_own, whole_in_own, own_fits)

@@ -64,6 +64,7 @@ fn take_next(memory: &mut [u64], out: &mut [u64]) -> Result<Act, Reason>
 }
 
 // Goes on from a first answer up to the end of what was said, and passes over what is told. Two more steps are enough, unless the memory isn't a keeper's.
+#[tactic(auto, using(crate::proofs::PlayedOn::goes_on))]
 #[inline(always)]
 pub fn play_on(memory: &mut [u64], first: Result<Act, Reason>, out: &mut [u64]) -> Played
     ensures { Went (played_on 2 memory.old first out.old 0) result memory.new out.new }
@@ -82,6 +83,7 @@ pub fn play_on(memory: &mut [u64], first: Result<Act, Reason>, out: &mut [u64]) 
 
 // Says a command, and goes on until it's at its end; what is told is passed over. The steps are those of the engine that meets the promise; what is played is
 // then done or refused as the board says.
+#[tactic(auto, using(crate::proofs::PlayedRun::playing))]
 #[inline(always)]
 pub fn play(memory: &mut [u64], command: Command, out: &mut [u64]) -> Played
     ensures went { Went (played memory.old command out.old) result memory.new out.new }
@@ -95,7 +97,7 @@ pub fn play(memory: &mut [u64], command: Command, out: &mut [u64]) -> Played
 
 // Writes the row, as the memory has it, to the front of `row`, and says how many cards it has; nothing if it finds no room, or if the memory isn't as long as
 // it has to be.
-#[tactic(auto, using(crate::proofs::RowRead::reading))]
+#[tactic(auto, unfolding(crate::specs::Playing::row_read, crate::specs::Playing::read_count))]
 pub fn read_row(memory: &[u64], row: &mut [u64]) -> u64
     ensures is { result ≡ read_count memory.now row.old }
     ensures row { row.new ≡ row_read memory.now row.old }

@@ -14,6 +14,7 @@ use row::place_at;
 use search::{forget, meet, settle, show_and_forget};
 
 // Shows the way by which the link would go round, after the searches met.
+#[tactic(auto, using(search::proofs::Joining::shown_is), unfolding(crate::specs::Reordering::round_cards, crate::specs::Reordering::shown_round))]
 #[inline(never)]
 fn show_round(memory: &mut Memory, slots: Link, joint: Link, out: &mut Output) -> Act
     ensures { Gives (shown_round memory.old slots joint) out.old (Ok result) memory.new out.new }

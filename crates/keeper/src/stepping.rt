@@ -133,7 +133,7 @@ pub(crate) fn step_as(
 
 // One step: the answer to an event, the memory after it, and what is told or shown at the front of `out`. The engine whose steps these are meets the
 // promise, and its firmer sister within three steps; whatever stands in the memory, its answers fit.
-#[tactic(auto, using(crate::proofs::EngineSteps::engine_steps))]
+#[tactic(auto, using(crate::proofs::Wholly::engine_steps))]
 pub fn step(memory: &mut [u64], event: Event, out: &mut [u64]) -> Result<Act, Reason>
     ensures says { StepSays memory.old event out.old result memory.new out.new }
     ensures whole { Whole own }

@@ -1,6 +1,5 @@
 -- Which of two numbers stands first, in two lists one behind the other.
-use Rattle.std.proofs.Common.{◌≡◌, ℕ, ◌<◌, true, false, List, ◌++◌, ◌∙◌, inl, inr, arith}
-use Rattle.std.proofs.lemmas.Bool.{cases_Bool}
+use Rattle.std.proofs.Common.{◌≡◌, ℕ, ◌<◌, true, false, List, ◌++◌, arith}
 use Rattle.order.specs.Lists.{has, place}
 use Rattle.order.proofs.Places.{place_below, place_left, place_right}
 
@@ -16,27 +15,16 @@ both_second xs ys x y p q l = rw (place_right xs ys x p, place_right xs ys y q) 
 -- another list behind the same front
 pub before_behind : (A X X' : List ℕ) (x y : ℕ) → place (A ++ X) x < place (A ++ X) y →
     (has A x ≡ false → has A y ≡ false → place X x < place X y → place X' x < place X' y) → place (A ++ X') x < place (A ++ X') y
-before_behind A X X' x y l k = elim (cases_Bool (has A x)) [
-  | inl p ↦ elim (cases_Bool (has A y)) [
-    | inl q ↦ both_first A X' x y p q (omega (arith, place_left A X x p, place_left A X y q))
-    | inr q ↦ first_before A X' x y p q
-  ]
-  | inr p ↦ elim (cases_Bool (has A y)) [
-    | inl q ↦ absurd (omega (arith, place_right A X x p, place_left A X y q, place_below A y q))
-    | inr q ↦ both_second A X' x y p q (k p q (omega (arith, place_right A X x p, place_right A X y q)))
-  ]
-]
+before_behind A X X' x y l k =
+    let a = place_left A X x in let b = place_left A X y in let c = place_left A X' x in let d = place_left A X' y in
+    let e = place_right A X x in let f = place_right A X y in let g = place_right A X' x in let h = place_right A X' y in
+    grind (arith, k, place_below A x, place_below A y)
 
 -- another list of the same numbers before the same rest
 pub before_ahead : (M M' P : List ℕ) (x y : ℕ) → ((k : ℕ) → has M' k ≡ has M k) → place (M ++ P) x < place (M ++ P) y →
     (has M x ≡ true → has M y ≡ true → place M x < place M y → place M' x < place M' y) → place (M' ++ P) x < place (M' ++ P) y
-before_ahead M M' P x y h l k = elim (cases_Bool (has M x)) [
-  | inl p ↦ elim (cases_Bool (has M y)) [
-    | inl q ↦ both_first M' P x y (h x ∙ p) (h y ∙ q) (k p q (omega (arith, place_left M P x p, place_left M P y q)))
-    | inr q ↦ first_before M' P x y (h x ∙ p) (h y ∙ q)
-  ]
-  | inr p ↦ elim (cases_Bool (has M y)) [
-    | inl q ↦ absurd (omega (arith, place_right M P x p, place_left M P y q, place_below M y q))
-    | inr q ↦ both_second M' P x y (h x ∙ p) (h y ∙ q) (omega (arith, place_right M P x p, place_right M P y q))
-  ]
-]
+before_ahead M M' P x y h l k =
+    let hx = h x in let hy = h y in
+    let a = place_left M P x in let b = place_left M P y in let c = place_left M' P x in let d = place_left M' P y in
+    let e = place_right M P x in let f = place_right M P y in let g = place_right M' P x in let i = place_right M' P y in
+    grind (arith, k, place_below M y, place_below M' x)

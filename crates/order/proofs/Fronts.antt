@@ -1,5 +1,5 @@
 -- Writing to the front of a list, one after the other.
-use Rattle.std.proofs.Common.{◌≡◌, ℕ, ◌+◌, ◌-◌, ◌<◌, ◌≤◌, List, [], ◌∷◌, ◌++◌, map, length, get_or, take, drop, set, sym, ap, ◌∙◌, append_assoc, arith, length-drop}
+use Rattle.std.proofs.Common.{◌≡◌, ℕ, ◌+◌, ◌<◌, ◌≤◌, List, [], ◌∷◌, ◌++◌, map, length, get_or, take, drop, set, sym, ap, ◌∙◌, append_assoc, arith}
 use lib.ListN.{length-map}
 use Rattle.std.proofs.lemmas.List.{drop_more, set_at, map_more, length-take-le, take_all}
 
@@ -16,12 +16,3 @@ pub front_all : (f : ℕ → ℕ) (ys out xs : List ℕ) (i : ℕ) → length ys
 front_all f ys out xs i h l e =
     let n : i ≡ length ys = omega arith in
     e ∙ ap (λ (zs : List ℕ). map f zs ++ drop i out) (take_all i ys h) ∙ ap (λ (k : ℕ). map f ys ++ drop k out) n
-
--- the part of a list from i on, below j, which has n numbers
-pub part_is : (f : ℕ → ℕ) (xs out : List ℕ) (i j n : ℕ) → i + n ≡ j → j ≤ length xs →
-    map f (take (j - i) (drop i xs)) ++ drop (length (take (j - i) (drop i xs))) out ≡ map f (take n (drop i xs)) ++ drop n out
-part_is f xs out i j n e h =
-    let k : j - i ≡ n = omega arith in
-    let l : length (take n (drop i xs)) ≡ n = length-take-le n (drop i xs) (omega (arith, length-drop i xs)) in
-    ap (λ (a : ℕ). map f (take a (drop i xs)) ++ drop (length (take a (drop i xs))) out) k
-    ∙ ap (λ (a : ℕ). map f (take n (drop i xs)) ++ drop a out) l

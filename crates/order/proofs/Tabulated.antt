@@ -1,11 +1,11 @@
--- Lists made from a function of the index, `map f (counting a n)`: what they have, where it stands, and what a filter and a cut leave of them.
-use Rattle.std.proofs.Common.{◌≡◌, ℕ, zero, suc, ◌+◌, ◌-◌, ◌<◌, ◌≤◌, true, false, not, eqb, ◌∷◌, map, take, drop, sym, refl, ap, ◌∙◌, inl, inr, add-zero, arith}
+-- Lists made from a function of the index, `map f (counting a n)`: what they have, where it stands, and what a cut leaves of them.
+use Rattle.std.proofs.Common.{◌≡◌, ℕ, zero, suc, ◌+◌, ◌-◌, ◌<◌, ◌≤◌, true, false, not, eqb, map, take, drop, sym, refl, inl, inr, add-zero, arith}
 use native.Mathlib.Nat.{sub-zero}
 use Rattle.std.specs.List.{range_with_len}
 use Rattle.std.proofs.lemmas.Bool.Decides.{nat_tests}
 use Rattle.std.proofs.lemmas.Bool.{eqb-true, eq-eqb, ne_eqb, cases_Bool, cases_eq, both_ways, or_right, or_left, and_parts, not-true}
 use Rattle.std.proofs.lemmas.List.FromFn.{take-map-range_with_len}
-use Rattle.order.specs.Lists.{any, filter, has, place, distinct}
+use Rattle.order.specs.Lists.{any, has, place, distinct}
 
 pub made_same : {X : Type 0} (f g : ℕ → X) (a n : ℕ) → ((p : ℕ) → a ≤ p → p < a + n → f p ≡ g p) → map f (range_with_len a n) ≡ map g (range_with_len a n)
 made_same f g a zero h = refl
@@ -74,51 +74,6 @@ made_apart f a (suc n) p q d l m u e =
       | inl i ↦ both_ways _ (not-true _ s.0) (has_made f (a + 1) n (f a) q (omega arith) (omega arith) (cc))
       | inr i ↦ made_apart f (a + 1) n p q s.1 (omega arith) m (omega arith) e
     ]
-
--- a made list without one number: what stands behind it moves one place to the front
-filter_whole : (f : ℕ → ℕ) (k a n : ℕ) → ((p : ℕ) → a ≤ p → p < a + n → f p ≡ k → ⊥) →
-    filter (λ j. not (eqb j k)) (map f (range_with_len a n)) ≡ map f (range_with_len a n)
-unfolding filter
-filter_whole f k a zero h = refl
-filter_whole f k a (suc n) h =
-    let e = ne_eqb (f a) k (h a (omega arith) (omega arith)) in
-    let ih = filter_whole f k (a + 1) n (λ p l u. h p (omega arith) (omega arith)) in
-    rw (e, ih)
-
-made_next : (f g : ℕ → ℕ) (a n : ℕ) → ((p : ℕ) → a ≤ p → p < a + n → g p ≡ f (suc p)) → map g (range_with_len a n) ≡ map f (range_with_len (a + 1) n)
-made_next f g a zero h = refl
-made_next f g a (suc n) h =
-    let i : suc a ≡ a + 1 = omega arith in
-    let e = rw i at (h a (omega arith) (omega arith)) in
-    let ih = made_next f g (a + 1) n (λ p l u. h p (omega arith) (omega arith)) in
-    cc
-
-filter_made_from : (f g : ℕ → ℕ) (k q a n : ℕ) → a ≤ q → q < a + suc n → f q ≡ k →
-    ((p : ℕ) → a ≤ p → p < a + suc n → (p ≡ q → ⊥) → f p ≡ k → ⊥) →
-    ((p : ℕ) → a ≤ p → p < q → g p ≡ f p) → ((p : ℕ) → q ≤ p → p < a + n → g p ≡ f (suc p)) →
-    map g (range_with_len a n) ≡ filter (λ j. not (eqb j k)) (map f (range_with_len a (suc n)))
-unfolding filter
-filter_made_from f g k q a zero l u e o h h₁ =
-    let t = eq-eqb (f a) k (ap f (omega arith) ∙ e) in
-    rw t
-filter_made_from f g k q a (suc n) l u e o h h₁ = elim (cases_eq q a) [
-  | inl s ↦
-      let t = eq-eqb (f a) k (cc) in
-      let w = filter_whole f k (a + 1) (suc n) (λ p x y. o p (omega arith) (omega arith) (λ z. omega arith)) in
-      rw t (made_next f g a (suc n) (λ p x y. h₁ p (omega arith) y) ∙ sym w)
-  | inr s ↦
-      let t = ne_eqb (f a) k (o a (omega arith) (omega arith) (λ z. omega arith)) in
-      let i = h a (omega arith) (omega arith) in
-      let ih = filter_made_from f g k q (a + 1) n (omega arith) (omega arith) e (λ p x y. o p (omega arith) (omega arith))
-      (λ p x y. h p (omega arith) y) (λ p x y. h₁ p x (omega arith)) in
-      rw (t, i) (ap (λ xs. f a ∷ xs) ih)
-]
-
-pub filter_made : (f g : ℕ → ℕ) (k q n : ℕ) → q < suc n → f q ≡ k → ((p : ℕ) → p < suc n → (p ≡ q → ⊥) → f p ≡ k → ⊥) →
-    ((p : ℕ) → p < q → g p ≡ f p) → ((p : ℕ) → q ≤ p → p < n → g p ≡ f (suc p)) →
-    map g (range_with_len 0 n) ≡ filter (λ j. not (eqb j k)) (map f (range_with_len 0 (suc n)))
-filter_made f g k q n u e o h h₁ =
-    filter_made_from f g k q 0 n (omega arith) (omega arith) e (λ p x y. o p (omega arith)) (λ p x y. h p y) (λ p x y. h₁ p x (omega arith))
 
 -- a part of a made list
 pub drop_made : {X : Type 0} (f : ℕ → X) (a n p : ℕ) → p ≤ n → drop p (map f (range_with_len a n)) ≡ map f (range_with_len (a + p) (n - p))

@@ -5,6 +5,7 @@ ghost use Rattle.order.specs.Renaming.{Renames};
 ghost use Rattle.order.specs.Kept.{KeptJust, BrokenJust, RefusedJust};
 
 // A link that is not refused can be kept.
+#[tactic(auto, using(crate::proofs::Firm::can_be))]
 pub fn can_be_stands() -> u8
     ensures { CanBe }
 {
@@ -12,6 +13,7 @@ pub fn can_be_stands() -> u8
 }
 
 // If it goes backward, by a row in which each card that it does not touch keeps its place.
+#[tactic(auto, using(crate::proofs::Firm::can_be_firm))]
 pub fn can_be_firm_stands() -> u8
     ensures { CanBeFirm }
 {
@@ -19,6 +21,7 @@ pub fn can_be_firm_stands() -> u8
 }
 
 // There is no other such row.
+#[tactic(auto, using(crate::proofs::Only::only_one))]
 pub fn only_one_stands() -> u8
     ensures { OnlyOne }
 {
@@ -26,6 +29,7 @@ pub fn only_one_stands() -> u8
 }
 
 // A firm row is a little changed one.
+#[tactic(auto, using(crate::proofs::Only::firm_is_little))]
 pub fn firm_is_little_stands() -> u8
     ensures { FirmIsLittle }
 {
@@ -40,6 +44,7 @@ pub fn leads_on_stands() -> u8
 }
 
 // What leads where stands before it.
+#[tactic(auto, using(crate::proofs::Leading::leads_before))]
 pub fn leads_before_stands() -> u8
     ensures { LeadsBefore }
 {
@@ -54,6 +59,7 @@ pub fn leads_just_stands() -> u8
 }
 
 // A link that would go round: the way can be shown.
+#[tactic(auto, using(crate::proofs::Circles::round_there))]
 pub fn round_there_stands() -> u8
     ensures { RoundThere }
 {
@@ -61,6 +67,7 @@ pub fn round_there_stands() -> u8
 }
 
 // Only what stands between the two cards may have another place.
+#[tactic(auto, using(crate::proofs::Little::only_between))]
 pub fn only_between_stands() -> u8
     ensures { OnlyBetween }
 {
@@ -68,6 +75,7 @@ pub fn only_between_stands() -> u8
 }
 
 // And of that only what is touched, if the row is firm.
+#[tactic(auto, using(crate::proofs::Only::only_touched))]
 pub fn only_touched_stands() -> u8
     ensures { OnlyTouched }
 {
@@ -75,6 +83,7 @@ pub fn only_touched_stands() -> u8
 }
 
 // An example: little alone does not say what row it has to be.
+#[tactic(auto, using(crate::proofs::Examples::little_is_loose))]
 pub fn little_is_loose_stands() -> u8
     ensures { LittleIsLoose }
 {
@@ -89,6 +98,7 @@ pub fn renames_stands() -> u8
 }
 
 // Kept is the reply just if the row keeps the links.
+#[tactic(auto, using(crate::proofs::Replies::kept_just))]
 pub fn kept_just_stands() -> u8
     ensures { KeptJust }
 {
@@ -103,6 +113,7 @@ pub fn broken_just_stands() -> u8
 }
 
 // Refused is the reply only if there is half a link, or too much.
+#[tactic(auto, using(crate::proofs::Replies::refused_just))]
 pub fn refused_just_stands() -> u8
     ensures { RefusedJust }
 {

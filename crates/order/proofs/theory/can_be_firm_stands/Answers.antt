@@ -1,5 +1,0 @@
-use Rattle.order.proofs.Firm.{can_be_firm}
-use Rattle.order.proofs.theory.can_be_firm_stands.Goals as goal
-
-pub returns : goal.returns
-returns c = can_be_firm
