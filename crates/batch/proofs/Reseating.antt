@@ -17,7 +17,7 @@ use Rattle.row.specs.declared.layout.TheConstants.{SEATS_MOST, COUNT, ENDING, FR
 use Rattle.row.specs.Meaning.{bit_set, in_use, count, ending, fresh, free, taken, row_of, cards, used, Standing}
 use Rattle.row.specs.Moves.{put_at}
 use Rattle.row.proofs.Named.{length_slots}
-use Rattle.search.proofs.Dealing.{put, put_apart, put_slots, put_places}
+use Rattle.search.proofs.Gathering.{put, put_apart, put_slots, put_places}
 use Rattle.search.proofs.Exchanged.{with_at, at_here, exchanged, exchanged_out}
 use Rattle.search.proofs.Listed.{counting_has, counting_once}
 use Rattle.search.proofs.Mapped.{map_has, has_map}

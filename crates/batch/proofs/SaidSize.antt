@@ -11,7 +11,7 @@ use Rattle.keeper.specs.Promise.{all_small, small_command}
 use Rattle.keeper.specs.Sized.{KeepsSize}
 use Rattle.keeper.specs.Reordering.{round_cards}
 use Rattle.keeper.proofs.Size.{small_each, small_map, size_writes, size_same, size_then, cond_holds}
-use Rattle.keeper.proofs.OwnSize.{small_one, Any, size_pending, Sized, sized_done, sized_refuses, sized_then, sized_cond, sized_shows, sized_on}
+use Rattle.keeper.proofs.OwnSize.{Few, few_answer, small_one, Any, size_pending, Sized, sized_done, sized_refuses, sized_then, sized_cond, sized_shows, sized_on}
 use Rattle.batch.specs.Promise.{small_link}
 use Rattle.memory.specs.declared.column.Column.{Column}
 use Rattle.memory.specs.Columns.{cell}
@@ -49,7 +49,6 @@ use Rattle.batch.proofs.Writing.{reseated_writes}
 use Rattle.batch.proofs.SpanTold.{noting_writes}
 use Rattle.keeper.specs.declared.event.Event.TheVariants.{Said, Next}
 use Rattle.keeper.specs.Own.{answer as keeper_answer}
-use Rattle.keeper.proofs.Room.{Few, few_answer}
 use Rattle.batch.specs.Tidying.{tidied}
 use Rattle.batch.specs.Engine.{one, several, anew, Heard, said, next}
 use Rattle.batch.specs.Own.{said_anew, when_idle, answer}

@@ -119,8 +119,8 @@ module _ (m : List ℕ) (a b : ℕ) (S : Setting m a b) (n : List ℕ) (s : Soun
         within = λ e z h. ⊎_elim (λ o. s.within e z o) (λ i. rw i.1 ((used_tells m a b S t used_t).1, p)) (new e z h);
         start = λ e. old e (cell m SEATS (origin a b e)) (s.start e);
         led = λ e z h. ⊎_elim (λ o. s.led e z o) (λ i.
-          let y = rw (used_tells m a b S x ux).2 at (s.led d (cell m SEATS x) mx) in
-          rw (i.0, i.1, (used_tells m a b S t used_t).2) (comes_on m a b S d (origin a b d) x t y k)) (new e z h);
+            let y = rw (used_tells m a b S x ux).2 at (s.led d (cell m SEATS x) mx) in
+            rw (i.0, i.1, (used_tells m a b S t used_t).2) (comes_on m a b S d (origin a b d) x t y k)) (new e z h);
         trail = trail_new;
         alone = never_both (λ e z. marked n' (marks_of e) z ≡ true) d alone_new;
       };

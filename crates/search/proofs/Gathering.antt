@@ -130,7 +130,7 @@ put m (p ∷ ps) (k ∷ ks) = put (put_at m p k) ps ks
 put_long : (m : List ℕ) (p k : ℕ) → length (put_at m p k) ≡ length m
 put_long m p k = length_written (written m SLOTS p k) SEATS k p ∙ length_written m SLOTS p k
 
-put_apart : (m : List ℕ) (p k : ℕ) (d : Column) (j : ℕ) → apart SLOTS d ≡ true → apart SEATS d ≡ true → cell (put_at m p k) d j ≡ cell m d j
+pub put_apart : (m : List ℕ) (p k : ℕ) (d : Column) (j : ℕ) → apart SLOTS d ≡ true → apart SEATS d ≡ true → cell (put_at m p k) d j ≡ cell m d j
 put_apart m p k d j a b = cell_apart (written m SLOTS p k) SEATS d k j p b ∙ cell_apart m SLOTS d p j k a
 
 one_slot : (m : List ℕ) (p k : ℕ) → SEATS.base + SEATS.size ≤ length m → p < SEATS_MOST → (x : ℕ) → cell (put_at m p k) SLOTS x ≡ with_at (cell m SLOTS) p k x
