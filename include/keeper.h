@@ -65,7 +65,7 @@ KeeperAnswer keeper_several(uint64_t *memory, size_t memory_len, const KeeperLin
 /* The row is made anew: of the cards before which none has to stand that hasn't come yet, the one with the smallest number comes next. */
 KeeperAnswer keeper_anew(uint64_t *memory, size_t memory_len, uint64_t *out, size_t out_len);
 
-/* Writes the row, from the left, to the front of `row`; says how many cards it has, or 0 if it finds no room. */
+/* Writes the row, from the left, to the front of `row`; says how many cards it has, or 0 if there is no room for them or memory_len isn't KEEPER_MEMORY. */
 uint64_t keeper_row(const uint64_t *memory, size_t memory_len, uint64_t *row, size_t row_len);
 
 #ifdef __cplusplus
