@@ -5,7 +5,7 @@
 --   Plays            from a memory that means a board on, a command that the board lets be done is done, and the memory then means the board after it; a
 --                    command that the board refuses is refused for the board's reason, and the memory means the same board
 --   PlaysUnfit       where the memory or the output doesn't fit, the command is refused, and nothing is changed
---   ReadsRow         the row that is read from a memory that means a board is the board's
+--   ReadsRow         the row that is told, and the row that is read, from a memory that means a board is the board's
 use Rattle.std.specs.Prelude.{◌≡◌, ℕ, ◌≤◌, true, false, List, ◌++◌, length, drop, Some, None, Ok, Err}
 use Rattle.command.specs.declared.command.Command.{Command}
 use Rattle.order.specs.declared.board.Refusal.{Refusal}
@@ -19,7 +19,7 @@ use Rattle.keeper.specs.Own.{step_fits}
 use Rattle.keeper.specs.Meaning.{Means}
 use Rattle.row.specs.Meaning.{count}
 use Rattle.row.specs.Telling.{told, told_count}
-use Rattle.keeper.specs.Playing.{played}
+use Rattle.keeper.specs.Playing.{played, row_read, read_count}
 
 abbrev pub DoneSo : Board → Command → List ℕ → Type 0
 DoneSo r c m =
@@ -40,4 +40,5 @@ PlaysUnfit =
 abbrev pub ReadsRow : Type 0
 ReadsRow =
     (m : List ℕ) (r : Board) (out : List ℕ) → Means m r → length r.row ≤ length out →
-    (told_count m 0 (count m) out ≡ length r.row) × (told m 0 (count m) out ≡ r.row ++ drop (length r.row) out)
+    ((told_count m 0 (count m) out ≡ length r.row) × (told m 0 (count m) out ≡ r.row ++ drop (length r.row) out))
+    × (length m ≡ MEMORY → (read_count m out ≡ length r.row) × (row_read m out ≡ r.row ++ drop (length r.row) out))

@@ -3,7 +3,7 @@
 -- Commands are said to an engine, which keeps a memory of numbers. It answers each command step by step, until the command is done or refused. What it has
 -- to answer is said by a board, cards in a row with links, of which the engine knows nothing: the board begins empty, and each command changes it. The
 -- promise is that, whatever the commands are, each is done if the board lets it be done, and refused for the right reason if not.
--- `Board`, `refusal`, `after`, `may_be`, `keeps` and `goes_round` are words of the crate `row`.
+-- `Board`, `refusal`, `after`, `may_be`, `keeps` and `goes_round` are words of the crates `order` and `command`.
 --   empty              the board at the start
 --   all_small ms       each of the numbers is below 2^64
 --   Steady e           the engine's memory is as asked
