@@ -10,21 +10,25 @@
 --   StaysOnce        no link is there twice: so at first, after a link was put in that wasn't there, and after links were taken out
 --   Gives            a walk along a slot's chain gives the links out of it or into it, just these, the newest first: so what it meets at their other
 --                    ends is what is linked. A walk along the chain of all gives them all
+--   SameTable m m'   what the table means, and what walks along its chains meet, is the same in two memories
+--   Depends          so it is if they agree on the table's columns: whoever writes beside them leaves it
 use Rattle.std.specs.Prelude.{◌≡◌, ℕ, ◌<◌, ◌≤◌, Bool, true, false, not, ◌&&◌, ◌||◌, List, [], ◌∷◌, ◌++◌, map, reverse, length, replicate, is_some, is_ok, Some, Option, Err, Result, ◌==◌}
 use Rattle.memory.specs.declared.column.TheConstants.{MEMORY}
 use Rattle.memory.specs.declared.column.Column.{Column}
 use Rattle.memory.specs.Columns.{cell}
-use Rattle.memory.specs.Footprints.{among, all_apart, all_lie}
+use Rattle.memory.specs.Footprints.{view, among, all_apart, all_lie, clear_all, Writes, Alike}
 use Rattle.order.specs.declared.board.TheConstants.{CARDS}
 use Rattle.order.specs.declared.board.Link.{Link}
 use Rattle.order.specs.declared.board.Refusal.{Refusal}
 use Rattle.order.specs.declared.board.Refusal.TheVariants.{Missing}
 use Rattle.order.specs.Board.{◌⟶◌}
 use Rattle.order.specs.Lists.{every, any, filter}
+use Rattle.chains.specs.declared.cells.Pointer.{Pointer}
 use Rattle.chains.specs.Walks.{walked}
-use Rattle.links.specs.declared.layout.TheConstants.{ENTRIES, OUT, IN, AGE, ALL}
+use Rattle.links.specs.declared.layout.TheConstants.{ENTRIES, OUT, IN, AGE, ALL, PAIR}
 use Rattle.links.specs.Pairs.{is_between, pair, joins}
-use Rattle.links.specs.Table.{columns, edges, IsTable, once}
+use Rattle.links.specs.Entries.{live}
+use Rattle.links.specs.Table.{columns, edges, Entry, TableOf, IsTable, once}
 
 unfoldable pub Counts : List ℕ → ℕ → Type 0
 Counts m n = IsTable m → (n ≡ length (edges m)) × (n ≤ ENTRIES) × (every is_between (edges m) ≡ true)
@@ -68,3 +72,18 @@ Gives = (m : List ℕ) → IsTable m
     × ((a b : ℕ) → a < CARDS → any (λ x. x.label == b) (walked ENTRIES OUT m a) ≡ any (joins (a ⟶ b)) (edges m))
     × ((a b : ℕ) → b < CARDS → any (λ x. x.label == a) (walked ENTRIES IN m b) ≡ any (joins (a ⟶ b)) (edges m))
     × (map (λ x. x.label) (walked ENTRIES AGE m ALL) ≡ reverse (map pair (edges m)))
+
+pub record SameTable (m m' : List ℕ) : Type 0 where
+  pub is_table : IsTable m → IsTable m'
+  pub same_entries : (L : List Entry) (free : List Pointer) → TableOf (view columns m) L free → TableOf (view columns m') L free
+  pub same_edges : edges m' ≡ edges m
+  pub same_live : live m' ≡ live m
+  pub same_out : (f p : ℕ) → walked f OUT m' p ≡ walked f OUT m p
+  pub same_in : (f p : ℕ) → walked f IN m' p ≡ walked f IN m p
+  pub same_age : (f p : ℕ) → walked f AGE m' p ≡ walked f AGE m p
+  pub same_pair : (f p : ℕ) → walked f PAIR m' p ≡ walked f PAIR m p
+
+unfoldable pub Depends : Type 0
+Depends =
+    ((m m' : List ℕ) → Alike columns m m' → SameTable m m')
+    × ((fs : List Column) (m m' : List ℕ) → clear_all fs columns ≡ true → Writes fs m m' → SameTable m m')

@@ -15,4 +15,4 @@ pub use insertion::insert;
 pub use layout::{AGE, ALL, ENTRIES, FREE, IN, LIVE, OUT, PAIR, USED};
 pub use lookup::find;
 pub use removal::{remove, remove_all};
-pub use theory::{begins_stands, gives_stands, lies_stands, stays_once_stands};
+pub use theory::{begins_stands, depends_stands, gives_stands, lies_stands, stays_once_stands};

@@ -1,5 +1,5 @@
 // What is proved of the table: a function for each statement that is about no single one of the operations, whose contract it is.
-ghost use Rattle.links.specs.Laws.{Lies, Begins, StaysOnce, Gives};
+ghost use Rattle.links.specs.Laws.{Lies, Begins, StaysOnce, Gives, Depends};
 
 // No two columns of the table share a number, and all lie in the memory.
 #[tactic(auto, using(crate::proofs::Beginning::lies))]
@@ -29,6 +29,14 @@ pub fn stays_once_stands() -> u8
 #[tactic(auto, using(crate::proofs::Giving::gives))]
 pub fn gives_stands() -> u8
     ensures { Gives }
+{
+    0
+}
+
+// What the table means depends on its columns alone.
+#[tactic(auto, using(crate::proofs::Keeping::depends))]
+pub fn depends_stands() -> u8
+    ensures { Depends }
 {
     0
 }
