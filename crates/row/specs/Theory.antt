@@ -6,12 +6,12 @@
 --   by_card m ls   the board of the cards in the row, with the same links between cards
 --   SlotsNamed     the board of cards is the board of slots with the cards' numbers for names, if its links are between cards
 --   SameRow m m'   what the row means is the same in two memories
---   Depends        what the row means depends on the columns of this crate alone: whoever writes beside them leaves it
+--   Depends        so it is if they agree on the columns of this crate: whoever writes beside them leaves it
 use Rattle.std.specs.Prelude.{◌≡◌, ℕ, true, ◌&&◌, List, [], map, replicate}
 use Rattle.memory.specs.declared.column.TheConstants.{MEMORY}
 use Rattle.memory.specs.declared.column.Column.{Column}
 use Rattle.memory.specs.Columns.{cell}
-use Rattle.memory.specs.Footprints.{clear_all, Writes}
+use Rattle.memory.specs.Footprints.{clear_all, Writes, Alike}
 use Rattle.order.specs.declared.board.Link.{Link}
 use Rattle.order.specs.Lists.{every, distinct}
 use Rattle.order.specs.Board.{Board}
@@ -50,4 +50,6 @@ pub record SameRow (m m' : List ℕ) : Type 0 where
   pub same_seats : (s : ℕ) → cell m' SEATS s ≡ cell m SEATS s
 
 abbrev pub Depends : Type 0
-Depends = (fs : List Column) (m m' : List ℕ) → clear_all fs columns ≡ true → Writes fs m m' → SameRow m m'
+Depends =
+    ((m m' : List ℕ) → Alike columns m m' → SameRow m m')
+    × ((fs : List Column) (m m' : List ℕ) → clear_all fs columns ≡ true → Writes fs m m' → SameRow m m')

@@ -29,7 +29,7 @@ pub fn slots_named_stands()
 {}
 
 // What the row means depends on the columns of this crate alone.
-#[tactic(auto, using(crate::proofs::Depending::depends))]
+#[tactic(auto, using(crate::proofs::Depending::depends_both))]
 pub fn depends_stands()
     ensures { Depends }
 {}
