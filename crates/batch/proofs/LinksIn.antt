@@ -147,18 +147,18 @@ marks_same m m' l e s z = let a = marks_alone m m' l e s in (a.0, λ p. a.1 p �
 brought_fresh : (m row : List ℕ) → Brought m row → Fresh m row × (edges m ≡ [])
 unfolding LinksBegin
 brought_fresh m row B =
-    let t = links_begin in
+    let t = links_begin.1 MEMORY (omega arith) in
     let s = zeros_of MEMORY FORE.column (omega arith) (omega arith) in
     let a = marks_same zeros m (sym B.back.as_long) (λ i. sym (B.back.others FORE.column i refl)) s.0 s.1 in (
       record {
         long = sym B.back.as_long ∙ length-replicate {A = ℕ} MEMORY 0;
         is_row = B.is_row;
-        is_table = record { table = subst TableIn (view_same row_columns link_columns refl m zeros B.back) t.1.table };
+        is_table = record { table = subst TableIn (view_same row_columns link_columns refl m zeros B.back) t.0.table };
         summed = a.0;
         none = a.1;
         cards_are = B.cards_are;
       },
-      sym (edges_kept row_columns refl m zeros B.back) ∙ t.2,
+      sym (edges_kept row_columns refl m zeros B.back) ∙ t.1,
     )
 
 -- the memory holds the cards and the links

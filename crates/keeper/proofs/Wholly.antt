@@ -71,8 +71,9 @@ pub at_start : Means (replicate MEMORY 0) empty
 unfolding Begins FreshMemory
 at_start =
     let f = fresh_memory in
-    empty_means (replicate MEMORY 0) begins.0 links_begin.1 (record { fore_summed = f.0; hind_summed = f.1; fore_none = f.2; hind_none = f.3 })
-    (long_at MEMORY (omega arith)) (no_slots (cell (replicate MEMORY 0) IDS) (row_of (replicate MEMORY 0)) begins.1) links_begin.2 (cell_zeros MEMORY PENDING 0)
+    let l = links_begin.1 MEMORY (omega arith) in
+    empty_means (replicate MEMORY 0) begins.0 l.0 (record { fore_summed = f.0; hind_summed = f.1; fore_none = f.2; hind_none = f.3 })
+    (long_at MEMORY (omega arith)) (no_slots (cell (replicate MEMORY 0) IDS) (row_of (replicate MEMORY 0)) begins.1) l.1 (cell_zeros MEMORY PENDING 0)
 
 pub whole_in_own : WholeIn 3 own
 whole_in_own = whole_in own 3 Means own_steady kept at_start

@@ -6,17 +6,18 @@
 --   Removes m x r m' the link x is there no more, and the others stay, in their order; nothing changes if it wasn't there, and then r says so
 --   RemovesAll m s m' the links out of the slot s and into it are there no more, and the others stay, in their order
 --   Lies             no two columns of the table share a number, and all lie in the memory
---   Begins           zeros are a table with no links
+--   zero_heads F m   the heads of F are zeros
+--   Begins           where the heads and what is counted are zeros, whatever stands in the entries, there is a table with no links; so zeros are
 --   StaysOnce        no link is there twice: so at first, after a link was put in that wasn't there, and after links were taken out
 --   Gives            a walk along a slot's chain gives the links out of it or into it, just these, the newest first: so what it meets at their other
 --                    ends is what is linked. A walk along the chain of all gives them all
 --   SameTable m m'   what the table means, and what walks along its chains meet, is the same in two memories
 --   Depends          so it is if they agree on the table's columns: whoever writes beside them leaves it
-use Rattle.std.specs.Prelude.{◌≡◌, ℕ, ◌<◌, ◌≤◌, Bool, true, false, not, ◌&&◌, ◌||◌, List, [], ◌∷◌, ◌++◌, map, reverse, length, replicate, is_some, is_ok, Some, Option, Err, Result, ◌==◌}
+use Rattle.std.specs.Prelude.{◌≡◌, ℕ, ◌+◌, ◌<◌, ◌≤◌, Bool, true, false, not, ◌&&◌, ◌||◌, List, [], ◌∷◌, ◌++◌, map, reverse, length, replicate, is_some, is_ok, Some, Option, Err, Result, ◌==◌}
 use Rattle.memory.specs.declared.column.TheConstants.{MEMORY}
 use Rattle.memory.specs.declared.column.Column.{Column}
 use Rattle.memory.specs.Columns.{cell}
-use Rattle.memory.specs.Footprints.{view, among, all_apart, all_lie, clear_all, Writes, Alike}
+use Rattle.memory.specs.Footprints.{view, all_apart, all_lie, clear_all, Writes, Alike}
 use Rattle.order.specs.declared.board.TheConstants.{CARDS}
 use Rattle.order.specs.declared.board.Link.{Link}
 use Rattle.order.specs.declared.board.Refusal.{Refusal}
@@ -24,10 +25,11 @@ use Rattle.order.specs.declared.board.Refusal.TheVariants.{Missing}
 use Rattle.order.specs.Board.{◌⟶◌}
 use Rattle.order.specs.Lists.{every, any, filter}
 use Rattle.chains.specs.declared.cells.Pointer.{Pointer}
+use Rattle.chains.specs.declared.chain_table.ChainTable.{ChainTable}
 use Rattle.chains.specs.Walks.{walked}
 use Rattle.links.specs.declared.layout.TheConstants.{ENTRIES, OUT, IN, AGE, ALL, PAIR}
 use Rattle.links.specs.Pairs.{is_between, pair, joins}
-use Rattle.links.specs.Entries.{live}
+use Rattle.links.specs.Entries.{live, used}
 use Rattle.links.specs.Table.{columns, edges, Entry, TableOf, IsTable, once}
 
 unfoldable pub Counts : List ℕ → ℕ → Type 0
@@ -55,10 +57,14 @@ RemovesAll m s m' =
 unfoldable pub Lies : Type 0
 Lies = (all_apart columns ≡ true) × (all_lie MEMORY columns ≡ true)
 
+abbrev pub zero_heads : ChainTable → List ℕ → Type 0
+zero_heads F m = (k : ℕ) → k < F.heads → cell m F.cells k ≡ 0
+
 unfoldable pub Begins : Type 0
 Begins =
-    ((m : List ℕ) → length m ≡ MEMORY → ((c : Column) (i : ℕ) → among columns c ≡ true → cell m c i ≡ 0) → IsTable m × (edges m ≡ []))
-    × IsTable (replicate MEMORY 0) × (edges (replicate MEMORY 0) ≡ [])
+    ((m : List ℕ) → PAIR.cells.base + PAIR.cells.size ≤ length m → live m ≡ 0 → used m ≡ 0
+    → zero_heads OUT m → zero_heads IN m → zero_heads AGE m → zero_heads PAIR m → IsTable m × (edges m ≡ []))
+    × ((n : ℕ) → PAIR.cells.base + PAIR.cells.size ≤ n → IsTable (replicate n 0) × (edges (replicate n 0) ≡ []))
 
 unfoldable pub StaysOnce : Type 0
 StaysOnce =

@@ -9,7 +9,7 @@ pub fn lies_stands() -> u8
     0
 }
 
-// A memory of zeros has no links.
+// Where the heads are zeros there are no links.
 #[tactic(auto, using(crate::proofs::Beginning::begins))]
 pub fn begins_stands() -> u8
     ensures { Begins }
