@@ -13,7 +13,7 @@ use Rattle.chains.specs.Tables.{unhooked}
 use Rattle.chains.specs.Walks.{walked}
 use Rattle.links.specs.declared.layout.TheConstants.{ENTRIES, OUT, IN, AGE, ALL, PAIR}
 use Rattle.links.specs.Pairs.{is_between, pair, bucket, joins}
-use Rattle.links.specs.Entries.{live, taken, freed, inserted, sought, found, refused, removed, emptied, removed_all}
+use Rattle.links.specs.Entries.{live, used, taken, freed, inserted, sought, reached, found, refused, removed, emptied, removed_all}
 use Rattle.links.specs.Table.{columns, edges, Entry, point, part, others, TableOf, IsTable, once}
 use Rattle.links.proofs.Pairing.{bucket_below, joins_is}
 use Rattle.links.proofs.Filtering.{filter_both, kept_all}
@@ -22,7 +22,7 @@ use Rattle.links.proofs.Telling.{links_of, walked_is, all_walked, edges_is, edge
 use Rattle.links.proofs.Standing.{TableFor, table_less, table_less_out, table_less_in}
 use Rattle.links.proofs.Taking.{taking, table_more}
 use Rattle.links.proofs.Onces.{once_turned, at_entry, at_listed, entry_less}
-use Rattle.links.proofs.Seeking.{there_is, there_at, none_outside}
+use Rattle.links.proofs.Seeking.{there_is, there_at, there_reached, none_outside}
 
 -- each link is between slots, and counted
 module _ (m : List ℕ) (h : IsTable m) where
@@ -77,7 +77,9 @@ module _ (m : List ℕ) (x : Link) (h : IsTable m) where
 
   found_there : is_between x ≡ true → found m x ≡ sought (pair x) (part bucket pair K (bucket x))
   unfolding found
-  found_there b = rw b (ap (sought (pair x)) (walked_is PAIR m (part bucket pair K) (bucket x) (t m h).pairs (bucket_below x) (lit≤ tt)))
+  found_there b =
+      rw b (ap (λ (xs : List Pointer). reached (sought (pair x) xs)) (walked_is PAIR m (part bucket pair K) (bucket x) (t m h).pairs (bucket_below x) (lit≤ tt))
+      ∙ there_reached x b (used m) K (t m h).low (t m h).room)
 
   found_none : is_between x ≡ false → found m x ≡ None
   unfolding found

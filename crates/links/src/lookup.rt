@@ -1,5 +1,5 @@
 // From a link to its entry, by the chain of its bucket.
-ghost use Rattle.std.specs.Prelude.{◌≡◌};
+ghost use Rattle.std.specs.Prelude.{◌≡◌, ◌≤◌, IfSome};
 ghost use Rattle.chains.specs.Walks.{walked};
 ghost use Rattle.links.specs.Entries.{sought, found};
 ghost use Rattle.links.specs.Laws.{Finds};
@@ -19,15 +19,17 @@ fn seek(memory: &Memory, key: u64, label: u64) -> Option<u64>
         .map(|pointer| pointer.held)
 }
 
-// The entry of a link, if it's there.
+// The entry of a link, if it's there. A garbage memory may name one that the table hasn't got.
 #[tactic(auto, using(crate::proofs::Promises::finds_so), unfolding(crate::specs::Entries::found))]
 #[inline(never)]
 pub fn find(memory: &Memory, link: Link) -> Option<u64>
     ensures is { result ≡ found memory.now link }
+    ensures below { IfSome result (λ entry. entry ≤ ENTRIES) }
     ensures finds { Finds memory.now link result }
 {
     if !is_between(link) {
         return None;
     }
-    seek(memory, bucket(link), pair(link))
+    let entry = seek(memory, bucket(link), pair(link))?;
+    (entry <= ENTRIES).then_some(entry)
 }
