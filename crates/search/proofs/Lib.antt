@@ -1,5 +1,6 @@
 pub mod Common
 pub mod Zeros
+pub mod PastPlaces
 pub mod Joining
 pub mod Rounds
 pub mod Showing

@@ -1,4 +1,5 @@
 pub mod Columns
+pub mod MarkLaws
 pub mod Meaning
 pub mod Way
 pub mod WayLaws

@@ -11,5 +11,5 @@ mod way;
 pub use hunt::meet;
 pub use layout::{CHOSEN, FORE, HIND, VIA};
 pub use settling::{forget, settle};
-pub use theory::fresh_memory_stands;
+pub use theory::{adding_past_stands, fresh_memory_stands};
 pub use way::{show_and_forget, show_trail};
