@@ -22,7 +22,7 @@ impl From<Misfit> for u64 {
 }
 
 // How many cards, and how many links, are looked at.
-const MOST: usize = 65536;
+pub(crate) const MOST: usize = 65536;
 
 // Whether a card stands before another: the first of the two that is met decides.
 fn before(row: &[u64], from: u64, to: u64) -> bool

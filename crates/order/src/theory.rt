@@ -1,8 +1,12 @@
 // What is proved of boards: a function for each statement, whose contract it is.
+ghost use Rattle.std.specs.Prelude.{◌≡◌};
 ghost use Rattle.order.specs.Theory.{CanBe, CanBeFirm, OnlyOne, FirmIsLittle, LeadsOn, LeadsBefore, LeadsJust};
 ghost use Rattle.order.specs.Theory.{RoundThere, OnlyBetween, OnlyTouched, LittleIsLoose};
 ghost use Rattle.order.specs.Renaming.{Renames};
 ghost use Rattle.order.specs.Kept.{KeptJust, BrokenJust, RefusedJust};
+
+use crate::board::{CARDS, LINKS};
+use crate::keeping::MOST;
 
 // A link that is not refused can be kept.
 #[tactic(auto, using(crate::proofs::Firm::can_be))]
@@ -119,3 +123,11 @@ pub fn refused_just_stands() -> u8
 {
     0
 }
+
+// How much there may be: the numbers that README names, 8,192 cards and 65,536 links on a board, 65,536 of each where it is asked whether a row keeps
+// links.
+pub fn limits_stand()
+    ensures cards { CARDS ≡ 8192 }
+    ensures links { LINKS ≡ 65536 }
+    ensures most { MOST ≡ 65536 }
+{}
