@@ -118,13 +118,13 @@ module _ (m : List ℕ) (r : Board) (ls : List Link) (long : length m ≡ MEMORY
 
     -- the part of the row, if it has to change
     kept_none : o ≡ None → keeps r.row (r.links ++ ls) ≡ true
-    kept_none e = let b = rw e at (span_moves p r ls P D there).0 in grind arith
+    kept_none e = let b = rw e at (span_moves.1 m r ls M there).0 in grind arith
 
     kept_not : (s : Span) → o ≡ Some s → keeps r.row (r.links ++ ls) ≡ false
-    kept_not s e = let b = rw e at (span_moves p r ls P D there).0 in grind arith
+    kept_not s e = let b = rw e at (span_moves.1 m r ls M there).0 in grind arith
 
     part : (s : Span) → o ≡ Some s → Names r ls s
-    part = (span_moves p r ls P D there).1
+    part = (span_moves.1 m r ls M there).1
 
     covers : (s : Span) → o ≡ Some s → Covers s r ls
     covers s e =

@@ -10,9 +10,9 @@ use Rattle.order.specs.Lists.{any, every, place}
 use Rattle.order.specs.Board.{Board, keeps}
 use Rattle.batch.proofs.SeveralOrder.{any_append}
 use Rattle.search.specs.Meaning.{Ready}
-use Rattle.keeper.specs.Meaning.{card_board}
+use Rattle.keeper.specs.Meaning.{card_board, Means}
 use Rattle.batch.specs.Several.{all_there, with_links, said_before, first_named, past_named}
-use Rattle.batch.specs.CheckLaws.{Repeats, Names, Spans, SpanMoves}
+use Rattle.batch.specs.CheckLaws.{Repeats, Names, SpansIn, Spans, MovesIn, SpanMoves}
 use Rattle.batch.proofs.SeveralRows.{there_parts}
 use Rattle.batch.proofs.CardsThere.{known_so, wider_so}
 use Rattle.std.proofs.lemmas.Bool.Decides.{nat_tests}
@@ -26,6 +26,8 @@ use Rattle.keeper.proofs.Knowing.{fine_cards}
 use Rattle.batch.specs.declared.seating.Span.{Span}
 use Rattle.batch.specs.declared.checking.Named.{Named}
 use Rattle.batch.specs.Dense.{Dense}
+use Rattle.row.specs.Moves.{packed}
+use Rattle.batch.proofs.ReadyAgain.{packed_means, packed_row}
 
 -- the link at i was said before, or stands among the first i
 abbrev pub seen : List ℕ → List Link → ℕ × Link → Bool
@@ -131,12 +133,12 @@ module _ (m : List ℕ) (R : Ready m) (D : Dense m) where
       let n = few in
       (omega (arith, w.low), omega (arith, w.high), p, q, n)
 
+spans_dense : (m : List ℕ) (r : Board) (ls : List Link) → Means m r → Dense m → all_there r ls ≡ true → SpansIn m r ls
+spans_dense m r ls M D t =
+    let u = rw M.is at t in subst (λ (b : Board). SpansIn m b ls) (sym M.is) (back_so m M.ready D ls u, names_so m M.ready D ls u)
+
 pub spans : Spans
-spans m r ls M D t =
-    let Claim : Board → Type 0 = λ (b : Board).
-    ((spanned m ls no_span).back ≡ not (keeps b.row (b.links ++ ls))) × ((spanned m ls no_span).back ≡ true → Names b ls (spanned m ls no_span).span) in
-    let u = rw M.is at t in
-    subst Claim (sym M.is) (back_so m M.ready D ls u, names_so m M.ready D ls u)
+spans = (spans_dense, λ m r ls M t. spans_dense (packed m) r ls (packed_means m r M) (packed_row m r M) t)
 
 moving_some : (s : Named) → is_some (moving s) ≡ s.back
 unfolding moving
@@ -149,10 +151,13 @@ moving_back s x e = elim (cases_Bool s.back) [
   | inr b ↦ let z = rw b at e in absurd (cc)
 ]
 
-pub span_moves : SpanMoves
-span_moves m r ls M D t =
+moves_dense : (m : List ℕ) (r : Board) (ls : List Link) → Means m r → Dense m → all_there r ls ≡ true → MovesIn m r ls
+moves_dense m r ls M D t =
     let s = spanned m ls no_span in
-    let S = spans m r ls M D t in (
+    let S = spans_dense m r ls M D t in (
       moving_some s ∙ S.0,
       λ x z. let b = moving_back s x z in subst (Names r ls) b.1 (S.1 b.0),
     )
+
+pub span_moves : SpanMoves
+span_moves = (moves_dense, λ m r ls M t. moves_dense (packed m) r ls (packed_means m r M) (packed_row m r M) t)

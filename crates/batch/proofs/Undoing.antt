@@ -9,6 +9,7 @@ use Rattle.order.specs.Renaming.{named}
 use Rattle.memory.specs.Columns.{cell}
 use Rattle.row.specs.declared.layout.TheConstants.{IDS, COUNT, CHAIN, TAKEN}
 use Rattle.row.specs.Meaning.{used, digit, bit_set, IsRow}
+use Rattle.row.specs.Moves.{packed}
 use Rattle.order.proofs.Climbs.{fine_parts, link_ends}
 use Rattle.order.proofs.RenamesLinks.{Known, joins_map}
 use Rattle.links.specs.Pairs.{joins}
@@ -20,7 +21,7 @@ use Rattle.keeper.proofs.TwoCards.{Seated, seated, slots_there, linked_is}
 use Rattle.keeper.proofs.Unlinking.{removed_means}
 use Rattle.batch.specs.Several.{with_links, all_there, Becomes, first_named, past_named}
 use Rattle.batch.specs.Joining.{dropped, taken_out, tried}
-use Rattle.batch.specs.UndoLaws.{TakesOut, put_aside, Covers, Undoes, UndoesNone}
+use Rattle.batch.specs.UndoLaws.{TakesOut, put_aside, Covers, UndoesIn, Undoes, UndoesNone}
 use Rattle.batch.proofs.SeveralOrder.{any_append}
 use Rattle.batch.proofs.Tries.{small_parts, means_fine}
 use Rattle.memory.specs.declared.column.TheConstants.{MEMORY}
@@ -40,7 +41,7 @@ use Rattle.batch.proofs.Saving.{saves, saved_writes}
 use Rattle.batch.proofs.Denseness.{few}
 use Rattle.batch.proofs.SeveralBetween.{several_between, SameEnds, ends_within}
 use Rattle.batch.proofs.SaidSize.{tried_columns, Trying, tried_so, taken_out_writes}
-use Rattle.batch.proofs.ReadyAgain.{row_count, Aside, seated_back}
+use Rattle.batch.proofs.ReadyAgain.{packed_long, packed_means, packed_row, row_count, Aside, seated_back}
 
 -- a link that is there once, taken out of a list
 none_out : (x : Link) (xs : List Link) → any (joins x) xs ≡ false → filter (λ y. not (joins x y)) xs ≡ xs
@@ -195,9 +196,17 @@ covers_front s r (suc n) (l ∷ ls) C =
     let ih = covers_front s r n ls (record { lower = omega (arith, C.lower); higher = omega (arith, C.higher); within = C.within }) in
     record { lower = omega (arith, C.lower, ih.lower); higher = omega (arith, C.higher, ih.higher); within = C.within }
 
-pub undoes : Undoes
-undoes m r ls n s row M D sm t long C b =
+undoes_dense : (m : List ℕ) (r : Board) (ls : List Link) (n : ℕ) (s : Span) (row : List ℕ) → Means m r → Dense m →
+    every (λ l. small_command (Links l)) ls ≡ true → all_there r ls ≡ true → length m ≡ MEMORY → Covers s r ls → Becomes r (take n ls) row →
+    UndoesIn m r ls n s row
+undoes_dense m r ls n s row M D sm t long C b =
     undone_so m r ls (take n ls) s row M D (every_front _ n ls sm) (every_front _ n ls t) long (covers_front s r n ls C) b
+
+pub undoes : Undoes
+undoes = (
+  undoes_dense,
+  λ m r ls n s row M sm t long C b. undoes_dense (packed m) r ls n s row (packed_means m r M) (packed_row m r M) sm t (packed_long m ∙ long) C b,
+)
 
 -- links that were all put in, and links of which one goes round
 module _ (m : List ℕ) (r : Board) (ls : List Link) (s : Span) (M : Means m r) (D : Dense m) (sm : every (λ l. small_command (Links l)) ls ≡ true)
@@ -207,7 +216,7 @@ module _ (m : List ℕ) (r : Board) (ls : List Link) (s : Span) (M : Means m r) 
 
   pub undoes_stopped : Stopped (put_aside m s) r ls →
       Means (undone (tried (put_aside m s) ls 0).memory (take (tried (put_aside m s) ls 0).count ls) (Some s)) r
-  undoes_stopped S = undoes m r ls (tried (put_aside m s) ls 0).count s S.row M D sm t long C S.becomes S.means
+  undoes_stopped S = undoes_dense m r ls (tried (put_aside m s) ls 0).count s S.row M D sm t long C S.becomes S.means
 
 pub undoes_none : UndoesNone
 unfolding undone reseated at_each

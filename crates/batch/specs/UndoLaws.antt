@@ -1,15 +1,16 @@
 -- What is so of links that were tried and are taken out again. Each of the last four names is a statement; its proof is asked for by a function of
 -- src/trying_laws.rt.
 --
---   put_aside m s   the memory with the part of the row that a span names put aside
---   Covers s r ls   this part has all cards that the links name, and lies in the row
---   NoPart o        there is no span, or there is no place in it
+--   put_aside m s          the memory with the part of the row that a span names put aside
+--   Covers s r ls          this part has all cards that the links name, and lies in the row
+--   UndoesIn m r ls n s w  after the links were tried, and n of them put in by the row w, these are taken out, and the row is seated as it was: the
+--                          memory means the board that it meant before
+--   NoPart o               there is no span, or there is no place in it
 --
---   SavesMeans      the row put aside is no part of what the memory means
---   TakesOut        links that were put in last are taken out again: the memory means the board without them
---   Undoes          after links were tried, of a row without gaps, those that were put in are taken out, and the row is seated as it was: the memory means the board that it
---                   meant before
---   UndoesNone      the same where the row stayed as it was, and no part of it was put aside
+--   SavesMeans             the row put aside is no part of what the memory means
+--   TakesOut               links that were put in last are taken out again: the memory means the board without them
+--   Undoes                 links that were tried are undone so, of a row without gaps; and of each memory that means a board, once its row is packed
+--   UndoesNone             the same where the row stayed as it was, and no part of it was put aside
 use Rattle.std.specs.Prelude.{◌≡◌, ℕ, ◌-◌, ◌≤◌, min, true, List, ◌++◌, length, take, Some, Option}
 use Rattle.memory.specs.declared.column.TheConstants.{MEMORY}
 use Rattle.order.specs.declared.board.TheConstants.{CARDS}
@@ -17,6 +18,7 @@ use Rattle.order.specs.declared.board.Link.{Link}
 use Rattle.command.specs.declared.command.Command.TheVariants.{Link as Links}
 use Rattle.order.specs.Lists.{every}
 use Rattle.order.specs.Board.{Board}
+use Rattle.row.specs.Moves.{packed}
 use Rattle.keeper.specs.Promise.{small_command}
 use Rattle.keeper.specs.Meaning.{Means}
 use Rattle.batch.specs.declared.seating.Span.{Span}
@@ -41,13 +43,19 @@ abbrev pub TakesOut : Type 0
 TakesOut =
     (m : List ℕ) (r : Board) (ls : List Link) → every (λ l. small_command (Links l)) ls ≡ true → Means m (with_links r ls) → Means (taken_out m ls) r
 
--- n links were put in
-abbrev pub Undoes : Type 0
-Undoes =
-    (m : List ℕ) (r : Board) (ls : List Link) (n : ℕ) (s : Span) (row : List ℕ) → Means m r → Dense m →
-    every (λ l. small_command (Links l)) ls ≡ true → all_there r ls ≡ true → length m ≡ MEMORY → Covers s r ls → Becomes r (take n ls) row →
+abbrev pub UndoesIn : List ℕ → Board → List Link → ℕ → Span → List ℕ → Type 0
+UndoesIn m r ls n s row =
     Means (tried (put_aside m s) ls 0).memory (record { row = row; links = r.links ++ take n ls }) →
     Means (undone (tried (put_aside m s) ls 0).memory (take n ls) (Some s)) r
+
+abbrev pub Undoes : Type 0
+Undoes =
+    ((m : List ℕ) (r : Board) (ls : List Link) (n : ℕ) (s : Span) (row : List ℕ) → Means m r → Dense m →
+    every (λ l. small_command (Links l)) ls ≡ true → all_there r ls ≡ true → length m ≡ MEMORY → Covers s r ls → Becomes r (take n ls) row →
+    UndoesIn m r ls n s row)
+    × ((m : List ℕ) (r : Board) (ls : List Link) (n : ℕ) (s : Span) (row : List ℕ) → Means m r →
+    every (λ l. small_command (Links l)) ls ≡ true → all_there r ls ≡ true → length m ≡ MEMORY → Covers s r ls → Becomes r (take n ls) row →
+    UndoesIn (packed m) r ls n s row)
 
 abbrev pub NoPart : Option Span → Type 0
 NoPart o = (s : Span) → o ≡ Some s → s.high ≤ s.low

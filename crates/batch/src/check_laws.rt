@@ -17,14 +17,15 @@ pub fn repeats_stands() -> u8
     0
 }
 
-// If no link goes backward, the row keeps them all; else what is spanned is the part of the row that they name.
+// Of a packed row, and of any once it is packed: if no link goes backward, the row keeps them all; else what is spanned is the part of the row that they
+// name.
 pub fn spans_stands() -> u8
     ensures { Spans }
 {
     0
 }
 
-// The part of the row that may change is none, or the one that the links name.
+// So the part of the row that may change is none, or the one that the links name.
 pub fn span_moves_stands() -> u8
     ensures { SpanMoves }
 {

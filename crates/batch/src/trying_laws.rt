@@ -30,7 +30,7 @@ pub fn takes_out_stands() -> u8
     0
 }
 
-// After links were tried and undone, the memory means the board that it meant before.
+// After links were tried and undone, of a packed row or of any once it is packed, the memory means the board that it meant before.
 pub fn undoes_stands() -> u8
     ensures { Undoes }
 {
