@@ -23,7 +23,7 @@ use Rattle.links.proofs.Giving.{age_gives}
 use Rattle.links.proofs.Keeping.{age_walked}
 use Rattle.chains.specs.declared.cells.Pointer.{Pointer}
 use Rattle.search.specs.Meaning.{slot_board}
-use Rattle.batch.specs.declared.layout.TheConstants.{SPARE, LEAVES, NUMBERS}
+use Rattle.batch.specs.declared.layout.TheConstants.{SPARE, WAITS, LEAVES, NUMBERS}
 use Rattle.batch.specs.Dense.{Dense}
 use Rattle.batch.specs.Several.{circle}
 use Rattle.batch.specs.Rule.{anew}
@@ -89,8 +89,11 @@ any_one f (y ∷ ys) x h e = elim (or_cases (eqb x y) (has ys x) h) [
 -- m is the memory in which the row was made anew, of n slots that have come, and not all have
 module _ (m : List ℕ) (n : ℕ) (long : NUMBERS.base + NUMBERS.size ≤ length m) (D : Dense m) (T : IsTable m) (within : within_row (row_of m) (edges m))
     (come : new_row m n ≡ anew (edges m) (row_of m)) (not_all : n < count m) where
+  abbrev m₀ : List ℕ
+  m₀ = wiped CARDS m WAITS 0
+
   abbrev y₀ : List ℕ
-  y₀ = wiped CARDS m LEAVES 0
+  y₀ = wiped CARDS m₀ LEAVES 0
 
   abbrev y : List ℕ
   y = flagged n y₀ 0
@@ -105,11 +108,14 @@ module _ (m : List ℕ) (n : ℕ) (long : NUMBERS.base + NUMBERS.size ≤ length
   abbrev late : ℕ → Bool
   late s = used m s && not (gone s)
 
-  y_wrote : Writes (LEAVES ∷ []) m y
+  y_since : Writes (LEAVES ∷ []) m₀ y
   unfolding flagged
-  y_wrote =
-      on _ m y₀ y (wiped_writes LEAVES CARDS m 0)
+  y_since =
+      on _ m₀ y₀ y (wiped_writes LEAVES CARDS m₀ 0)
       (each _ (λ m₁ j. written m₁ LEAVES (cell m₁ SPARE j) 1) (λ m₁ j. put_one m₁ LEAVES (cell m₁ SPARE j) 1 (λ s. omega arith)) n y₀ 0)
+
+  y_wrote : Writes (WAITS ∷ LEAVES ∷ []) m y
+  y_wrote = after _ _ m m₀ y refl y_since (less _ _ m m₀ refl (wiped_writes WAITS CARDS m 0))
 
   x_wrote : Writes noting y x
   unfolding traced
@@ -121,17 +127,22 @@ module _ (m : List ℕ) (n : ℕ) (long : NUMBERS.base + NUMBERS.size ≤ length
       along_fold AGE noted noting noted_writes refl ENTRIES y ALL
       ∙ ap (fold noted y) (ap (map (λ (q : Pointer). q.label)) (age_walked _ refl m y y_wrote ENTRIES ALL) ∙ age_gives m T)
 
-  wrote : Writes (LEAVES ∷ NUMBERS ∷ []) m x
+  wrote : Writes (WAITS ∷ LEAVES ∷ NUMBERS ∷ []) m x
   wrote = after _ _ m y x refl x_wrote (less _ _ m y refl y_wrote)
 
   y_stays : (s : ℕ) → used m s ≡ true → stays y s ≡ not (gone s)
   unfolding stays
   y_stays s u =
       let low = used_below m D.is_row s u in
-      let b = wiped_writes LEAVES CARDS m 0 in
-      let z = wiped_in LEAVES CARDS m s (omega (arith, long)) low (omega arith) in
-      let e = made_same (cell y₀ SPARE) (cell m SPARE) 0 n (λ p _ _. b.others SPARE p refl) ∙ come in
-      rw (lt-ltb s CARDS low, flagged_is n y₀ 0 s (omega (arith, b.as_long, long)) low, z, e) (grind arith)
+      let a = wiped_writes WAITS CARDS m 0 in
+      let b = wiped_writes LEAVES CARDS m₀ 0 in
+      let z = wiped_in LEAVES CARDS m₀ s (omega (arith, a.as_long, long)) low (omega arith) in
+      let e = made_same (cell y₀ SPARE) (cell m SPARE) 0 n (λ p _ _. b.others SPARE p refl ∙ a.others SPARE p refl) ∙ come in
+      rw (lt-ltb s CARDS low, flagged_is n y₀ 0 s (omega (arith, a.as_long, b.as_long, long)) low, z, e) (grind arith)
+
+  -- nothing is noted at first
+  y_none : (s : ℕ) → s < CARDS → cell y WAITS s ≡ 0
+  y_none s low = y_since.others WAITS s refl ∙ wiped_in WAITS CARDS m s (omega (arith, long)) low (omega arith)
 
   x_stays : (s : ℕ) → stays x s ≡ stays y s
   unfolding stays
@@ -144,12 +155,13 @@ module _ (m : List ℕ) (n : ℕ) (long : NUMBERS.base + NUMBERS.size ≤ length
   noted_late : (s : ℕ) → late s ≡ true → Noted y long_y (pairs m T) s x
   noted_late s h =
       let u = and_parts (used m s) (not (gone s)) h in
+      let low = used_below m D.is_row s u.0 in
       let w = left_waits (edges m) (row_of m) (row_once m D.is_row) s (has_slot m D.is_row s u.0) (grind arith) in
       let v = one_any _ (pairs m T) (any_pairs m T (λ a b. eqb a w.0 && eqb b s) ∙ w.1) in
       let e = and_parts (eqb (v.0 / CARDS) w.0) (eqb (v.0 % CARDS) s) v.2 in
       let z : stays y (v.0 / CARDS) ≡ true = ap (stays y) (eqb-true _ _ e.0) ∙ y_stays w.0 (sym (has_used m D.is_row w.0) ∙ w.2) ∙ ap not w.3 in
       subst (Noted y long_y (pairs m T) s) (sym x_is)
-      (all_noted y long_y (pairs m T) s (used_below m D.is_row s u.0) (pairs m T) y v.0 (same noting y) (λ k i. i) v.1 z (eqb-true _ _ e.1))
+      (all_noted y long_y (pairs m T) s low (pairs m T) y v.0 (same noting y) (λ k i. i) (y_none s low) v.1 z (eqb-true _ _ e.1))
 
   abbrev next : ℕ → ℕ
   next = cell x NUMBERS

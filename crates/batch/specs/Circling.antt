@@ -1,9 +1,10 @@
--- A circle among the slots that haven't come by the rule, as the code goes. Two columns serve anew here: LEAVES has a 1 for each slot that has come, and
--- NUMBERS has for a slot one that hasn't come and is linked to it.
+-- A circle among the slots that haven't come by the rule, as the code goes. Three columns serve anew here: LEAVES has a 1 for each slot that has come,
+-- NUMBERS has for a slot one that hasn't come and is linked to it, and WAITS has a 1 for each slot for which one is noted.
 --
 --   flagged f m i     noted of f slots in SPARE, from i on, that they have come
 --   stays m s         the slot s hasn't come
 --   noted m n         of the link whose pair of slots is n: for the slot that it goes into, the one that it comes out of noted, if that hasn't come
+--                     and none is noted yet
 --   notes m           so for each link
 --   traced m n        both, after n slots have come
 --   first_left f m p  the slot at the first of f places, from p on, that hasn't come; 0 if there is none
@@ -20,7 +21,7 @@ use Rattle.row.specs.declared.layout.TheConstants.{SLOTS}
 use Rattle.row.specs.Meaning.{count}
 use Rattle.links.specs.declared.layout.TheConstants.{ENTRIES, AGE, ALL}
 use Rattle.search.specs.Way.{trail, over}
-use Rattle.batch.specs.declared.layout.TheConstants.{SPARE, LEAVES, NUMBERS}
+use Rattle.batch.specs.declared.layout.TheConstants.{SPARE, WAITS, LEAVES, NUMBERS}
 use Rattle.batch.specs.Along.{along}
 
 unfoldable pub flagged : ℕ → List ℕ → ℕ → List ℕ
@@ -30,13 +31,14 @@ unfoldable pub stays : List ℕ → ℕ → Bool
 stays m s = nat_lt s CARDS && cell m LEAVES s == 0
 
 unfoldable pub noted : List ℕ → ℕ → List ℕ
-noted m n = cond (stays m (n / CARDS)) (written m NUMBERS (n % CARDS) (n / CARDS)) m
+noted m n =
+    cond (stays m (n / CARDS) && cell m WAITS (n % CARDS) == 0) (written (written m NUMBERS (n % CARDS) (n / CARDS)) WAITS (n % CARDS) 1) m
 
 abbrev pub notes : List ℕ → List ℕ
 notes m = along AGE noted ENTRIES m ALL
 
 unfoldable pub traced : List ℕ → ℕ → List ℕ
-traced m n = notes (flagged n (wiped CARDS m LEAVES 0) 0)
+traced m n = notes (flagged n (wiped CARDS (wiped CARDS m WAITS 0) LEAVES 0) 0)
 
 unfoldable pub first_left : ℕ → List ℕ → ℕ → ℕ
 first_left zero m p = 0

@@ -1,13 +1,14 @@
 // A circle of links among the cards that don't come by the rule.
 //
 // Each card that hasn't come waits for one that hasn't come either. So one step back after the other, as many as there may be cards, leads to a card of
-// a circle, and from there on round it. Two columns serve anew: LEAVES has a 1 for each slot that has come, and NUMBERS has for a slot one that hasn't
-// come and is linked to it. LEAVES is a set of slots then: the column is there already, and its counts aren't needed any more.
+// a circle, and from there on round it. Three columns serve anew: LEAVES has a 1 for each slot that has come, NUMBERS has for a slot one that hasn't come
+// and is linked to it, and WAITS has a 1 for each slot for which one is noted. LEAVES and WAITS are sets of slots then: the columns are there already, and
+// their counts aren't needed any more. Of several links into a slot the newest is followed: links are met from the newest on, and the first stays noted.
 ghost use Rattle.std.specs.Prelude.{◌≡◌};
 ghost use Rattle.memory.specs.Columns.{cell};
 ghost use Rattle.batch.specs.Circling.{flagged, stays, noted, notes, traced, start, back, RoundSo};
 
-use crate::layout::{LEAVES, NUMBERS, SPARE};
+use crate::layout::{LEAVES, NUMBERS, SPARE, WAITS};
 use crate::seating::row_len;
 use links::{AGE, ALL, ENTRIES};
 use memory::Memory;
@@ -34,14 +35,17 @@ fn stays(memory: &Memory, slot: u64) -> bool
     slot < CARDS && LEAVES.get(memory, slot) == 0
 }
 
-// Notes for the slot that a link goes into the one that it comes out of, if that hasn't come. The link is a pair of slots in one number.
+// Notes for the slot that a link goes into the one that it comes out of, if that hasn't come and none is noted yet. The link is a pair of slots in one
+// number.
 #[tactic(auto, unfolding(crate::specs::Circling::noted))]
 fn note(memory: &mut Memory, pair: u64)
     ensures { memory.new ≡ noted memory.old pair }
 {
     let from = pair / CARDS;
-    if stays(memory, from) {
-        NUMBERS.set(memory, pair % CARDS, from);
+    let into = pair % CARDS;
+    if stays(memory, from) && WAITS.get(memory, into) == 0 {
+        NUMBERS.set(memory, into, from);
+        WAITS.set(memory, into, 1);
     }
 }
 
@@ -65,6 +69,7 @@ fn note_all(memory: &mut Memory)
 fn trace(memory: &mut Memory, n: u64)
     ensures { memory.new ≡ traced memory.old n }
 {
+    WAITS.blank(memory, CARDS);
     LEAVES.blank(memory, CARDS);
     flag(memory, n);
     note_all(memory);

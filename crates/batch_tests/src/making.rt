@@ -47,7 +47,7 @@ fn check(
 #[test]
 fn small_rows(rt: HostRuntime) -> Result<(), Fail> {
     let row = [50, 10, 40, 20, 30];
-    let cases: [(&[Link], Due); 9] = [
+    let cases: [(&[Link], Due); 10] = [
         (&[], Due::Row(&row)),
         (&[link(50, 10), link(10, 30)], Due::Row(&row)),
         // After 50 comes 40, since 10 waits for it, and then 10.
@@ -69,6 +69,11 @@ fn small_rows(rt: HostRuntime) -> Result<(), Fail> {
             Due::Round(&[10, 20, 40]),
         ),
         (&[link(50, 20), link(20, 20)], Due::Round(&[20])),
+        // Two circles go through 10: the newest link into it is followed.
+        (
+            &[link(40, 10), link(20, 10), link(10, 40), link(10, 20)],
+            Due::Round(&[10, 20]),
+        ),
         (&[link(50, 20), link(20, 60)], MISSING),
         (&[link(60, 20)], MISSING),
     ];
