@@ -1,5 +1,6 @@
 -- What the operations do to the table, by their models.
-use Rattle.std.proofs.Common.{◌≡◌, ℕ, ◌<◌, ◌≤◌, Bool, true, false, not, ◌&&◌, ◌||◌, eqb, ltb, List, [], ◌∷◌, ◌++◌, map, filter, length, is_some, is_ok, Some, None, Option, refl, sym, ap, ◌∙◌, inl, inr, lit≤, arith}
+use Rattle.std.proofs.Common.{◌≡◌, ℕ, ◌<◌, ◌≤◌, Bool, true, false, not, ◌&&◌, ◌||◌, eqb, ltb, List, [], ◌∷◌, ◌++◌, map, filter, length, min, is_some, is_ok, Some, None, Option, refl, sym, ap, ◌∙◌, inl, inr, lit≤, arith}
+use Rattle.std.specs.Option.{option_map}
 use Rattle.std.proofs.lemmas.Bool.{cases_Bool, cases_lt, lt-ltb}
 use Rattle.std.proofs.lemmas.Bool.Decides.{nat_tests}
 use mathlib.Core.List.{reverse-cons}
@@ -13,16 +14,16 @@ use Rattle.chains.specs.Tables.{unhooked}
 use Rattle.chains.specs.Walks.{walked}
 use Rattle.links.specs.declared.layout.TheConstants.{ENTRIES, OUT, IN, AGE, ALL, PAIR}
 use Rattle.links.specs.Pairs.{is_between, pair, bucket, joins}
-use Rattle.links.specs.Entries.{live, used, taken, freed, inserted, sought, reached, found, refused, removed, emptied, removed_all}
-use Rattle.links.specs.Table.{columns, edges, Entry, point, part, others, TableOf, IsTable, once}
+use Rattle.links.specs.Entries.{live, used, taken, freed, inserted, sought, looked_up, found, refused, removed, emptied, removed_all}
+use Rattle.links.specs.Table.{columns, edges, Entry, point, part, listed, others, TableOf, IsTable, once}
 use Rattle.links.proofs.Pairing.{bucket_below, joins_is}
-use Rattle.links.proofs.Filtering.{filter_both, kept_all}
+use Rattle.links.proofs.Filtering.{filter_both, kept_all, low_listed}
 use Rattle.links.proofs.Coming.{all_apart}
 use Rattle.links.proofs.Telling.{links_of, walked_is, all_walked, edges_is, edges_length, edges_any, edges_every, edges_kept, links_filter, links_any, links_every}
 use Rattle.links.proofs.Standing.{TableFor, table_less, table_less_out, table_less_in}
 use Rattle.links.proofs.Taking.{taking, table_more}
 use Rattle.links.proofs.Onces.{once_turned, at_entry, at_listed, entry_less}
-use Rattle.links.proofs.Seeking.{there_is, there_at, there_reached, none_outside}
+use Rattle.links.proofs.Seeking.{there_is, there_at, none_outside}
 
 -- each link is between slots, and counted
 module _ (m : List ℕ) (h : IsTable m) where
@@ -75,29 +76,43 @@ module _ (m : List ℕ) (x : Link) (h : IsTable m) where
   abbrev K : List Entry
   K = L m h
 
-  found_there : is_between x ≡ true → found m x ≡ sought (pair x) (part bucket pair K (bucket x))
-  unfolding found
-  found_there b =
-      rw b (ap (λ (xs : List Pointer). reached (sought (pair x) xs)) (walked_is PAIR m (part bucket pair K) (bucket x) (t m h).pairs (bucket_below x) (lit≤ tt))
-      ∙ there_reached x b (used m) K (t m h).low (t m h).room)
+  looked_there : is_between x ≡ true → looked_up m x ≡ sought (pair x) (part bucket pair K (bucket x))
+  unfolding looked_up
+  looked_there b = rw b (ap (sought (pair x)) (walked_is PAIR m (part bucket pair K) (bucket x) (t m h).pairs (bucket_below x) (lit≤ tt)))
 
-  found_none : is_between x ≡ false → found m x ≡ None
+  looked_none : is_between x ≡ false → looked_up m x ≡ None
+  unfolding looked_up
+  looked_none b = rw b refl
+
+  looks : is_some (looked_up m x) ≡ any (joins x) (edges m)
+  looks = elim (cases_Bool (is_between x)) [
+    | inl b ↦
+        let f = looked_there b in let i = there_is x b K (t m h).between in let l = links_any (joins x) K in
+        let e = edges_any m K (free m h) (t m h) (joins x) in cc
+    | inr b ↦ let f = looked_none b in let n = none_outside x (edges m) b (all_between m h) in cc
+  ]
+
+  looked_entry : (e : ℕ) → looked_up m x ≡ Some e → at_entry e x K ≡ true
+  looked_entry e f = elim (cases_Bool (is_between x)) [
+    | inl b ↦ there_at x b K e (t m h).between (sym (looked_there b) ∙ f)
+    | inr b ↦ let n = looked_none b in cc
+  ]
+
+  -- the entry that is looked up is no further than the last
+  uncut : (o : Option ℕ) → looked_up m x ≡ o → option_map (λ e. min e ENTRIES) o ≡ o
+  uncut None f = refl
+  uncut (Some e) f =
+      let l : listed e K ≡ true = let a = at_listed e x K (looked_entry e f) in grind arith in
+      let b : e ≤ used m = low_listed (λ (y : Entry). y.number) (used m) e K (t m h).low l in
+      let r : used m ≤ ENTRIES = (t m h).room in
+      let q : min e ENTRIES ≡ e = omega arith in ap Some q
+
+  found_is : found m x ≡ looked_up m x
   unfolding found
-  found_none b = rw b refl
+  found_is = uncut (looked_up m x) refl
 
   pub finds : is_some (found m x) ≡ any (joins x) (edges m)
-  finds = elim (cases_Bool (is_between x)) [
-    | inl b ↦
-        let f = found_there b in let i = there_is x b K (t m h).between in let l = links_any (joins x) K in
-        let e = edges_any m K (free m h) (t m h) (joins x) in cc
-    | inr b ↦ let f = found_none b in let n = none_outside x (edges m) b (all_between m h) in cc
-  ]
-
-  found_entry : (e : ℕ) → found m x ≡ Some e → at_entry e x K ≡ true
-  found_entry e f = elim (cases_Bool (is_between x)) [
-    | inl b ↦ there_at x b K e (t m h).between (sym (found_there b) ∙ f)
-    | inr b ↦ let n = found_none b in cc
-  ]
+  finds = ap is_some found_is ∙ looks
 
   in_age_chain : (e : ℕ) (M : List Entry) → at_entry e x M ≡ true → any (λ y. eqb y.held e && eqb y.label (pair x)) (map (point pair) M) ≡ true
   unfolding any
@@ -105,37 +120,37 @@ module _ (m : List ℕ) (x : Link) (h : IsTable m) where
   in_age_chain e (y ∷ M) a = let ih = in_age_chain e M in let j = joins_is x y.link in grind (arith, nat_tests)
 
   pub finds_at : (e : ℕ) → found m x ≡ Some e → any (λ y. eqb y.held e && eqb y.label (pair x)) (walked ENTRIES AGE m ALL) ≡ true
-  finds_at e f = let w = all_walked m K (free m h) (t m h) in let c = in_age_chain e K (found_entry e f) in cc
+  finds_at e f = let w = all_walked m K (free m h) (t m h) in let c = in_age_chain e K (looked_entry e (sym found_is ∙ f)) in cc
 
   -- a link is taken out
-  less : (e : ℕ) → found m x ≡ Some e → TableFor (freed (unhooked IN (unhooked OUT m e) e) e) (others e K)
-  less e f = table_less m K (free m h) (t m h) e (let a = at_listed e x K (found_entry e f) in grind arith)
+  less : (e : ℕ) → looked_up m x ≡ Some e → TableFor (freed (unhooked IN (unhooked OUT m e) e) e) (others e K)
+  less e f = table_less m K (free m h) (t m h) e (let a = at_listed e x K (looked_entry e f) in grind arith)
 
-  removed_to : (o : Option ℕ) → found m x ≡ o
+  removed_to : (o : Option ℕ) → looked_up m x ≡ o
       → IsTable (removed m x).memory × (once (edges m) ≡ true → edges (removed m x).memory ≡ kept (λ y. not (joins x y)) (edges m))
   unfolding removed
-  removed_to None f = let s = finds in rw f (h, λ o. sym (kept_all (joins x) (edges m) (cc)))
+  removed_to None f = let s = looks in rw f (h, λ o. sym (kept_all (joins x) (edges m) (cc)))
   removed_to (Some e) f =
       let l = less e f in rw f (
         record { table = record { entries = others e K; free = l.0; table = l.1 } },
         λ o. let a = edges_is m K (free m h) (t m h) in
-            let k = entry_less e x K (all_apart m K (free m h) (t m h).ages) (once_turned (links_of K) (rw a at o)) (found_entry e f) in
+            let k = entry_less e x K (all_apart m K (free m h) (t m h).ages) (once_turned (links_of K) (rw a at o)) (looked_entry e f) in
             let b = edges_is _ (others e K) l.0 l.1 in let c = edges_kept m K (free m h) (t m h) (λ y. not (joins x y)) in cc,
       )
 
   pub removes_table : IsTable (removed m x).memory
-  removes_table = (removed_to (found m x) refl).0
+  removes_table = (removed_to (looked_up m x) refl).0
 
   pub removes_edges : once (edges m) ≡ true → edges (removed m x).memory ≡ kept (λ y. not (joins x y)) (edges m)
-  removes_edges = (removed_to (found m x) refl).1
+  removes_edges = (removed_to (looked_up m x) refl).1
 
   pub removes_missing : any (joins x) (edges m) ≡ false → removed m x ≡ refused m Missing
   unfolding removed
-  removes_missing n = let f = finds in grind arith
+  removes_missing n = let f = looks in grind arith
 
   pub removes_ok : is_ok (removed m x).answer ≡ any (joins x) (edges m)
   unfolding removed
-  removes_ok = let f = finds in grind arith
+  removes_ok = let f = looks in grind arith
 
 -- all of a slot are
 module _ (m : List ℕ) (s : ℕ) where

@@ -1,12 +1,11 @@
 -- A link is found at its entry, if it is there.
-use Rattle.std.proofs.Common.{◌≡◌, ℕ, ◌≤◌, true, false, leb, List, [], ◌∷◌, is_some, Some, Option, refl, arith}
+use Rattle.std.proofs.Common.{◌≡◌, ℕ, true, false, List, [], ◌∷◌, is_some, Some, Option, refl, arith}
 use Rattle.std.specs.List.{list_all, list_any}
 use Rattle.std.proofs.lemmas.Bool.Decides.{nat_tests}
 use Rattle.order.specs.declared.board.Link.{Link}
 use Rattle.order.specs.Lists.{any, every}
-use Rattle.links.specs.declared.layout.TheConstants.{ENTRIES}
 use Rattle.links.specs.Pairs.{is_between, pair, bucket, joins}
-use Rattle.links.specs.Entries.{sought, reached}
+use Rattle.links.specs.Entries.{sought}
 use Rattle.links.specs.Table.{Entry, part}
 use Rattle.links.proofs.Pairing.{pair_joins, joins_is}
 use Rattle.links.proofs.Onces.{at_entry}
@@ -23,11 +22,6 @@ module _ (x : Link) (b : is_between x ≡ true) where
   pub there_at : (L : List Entry) (e : ℕ) → list_all (λ y. is_between y.link) L ≡ true → there L ≡ Some e → at_entry e x L ≡ true
   there_at [] e a h = cc
   there_at (y ∷ L) e a h = let ih = there_at L e in let s = pair_joins x y.link b in let j = joins_is x y.link in grind (arith, nat_tests)
-
-  -- the table has the entry that is found, if it has all of these
-  pub there_reached : (n : ℕ) (L : List Entry) → list_all (λ y. leb y.number n) L ≡ true → n ≤ ENTRIES → reached (there L) ≡ there L
-  there_reached n [] l b = refl
-  there_reached n (y ∷ L) l b = let ih = there_reached n L in grind (arith, nat_tests)
 
 -- what joins slots that are none is not there
 pub none_outside : (x : Link) (xs : List Link) → is_between x ≡ false → every is_between xs ≡ true → any (joins x) xs ≡ false

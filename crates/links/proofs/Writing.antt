@@ -16,7 +16,7 @@ use Rattle.chains.specs.Walks.{met}
 use Rattle.chains.proofs.Framing.{pushed_writes, unhooked_writes, cleared_writes}
 use Rattle.links.specs.declared.layout.TheConstants.{ENTRIES, LIVE, USED, OUT, IN, AGE, ALL, FREE, PAIR}
 use Rattle.links.specs.Pairs.{is_between, pair, bucket}
-use Rattle.links.specs.Entries.{live, used, free_entry, taken, pointer, hung, shelved, freed, counted, inserted, found, Outcome, removed, dropped, emptied, removed_all}
+use Rattle.links.specs.Entries.{live, used, free_entry, taken, pointer, hung, shelved, freed, counted, inserted, looked_up, Outcome, removed, dropped, emptied, removed_all}
 use Rattle.links.specs.Table.{columns}
 
 -- a step of a chain behind what was written
@@ -96,7 +96,7 @@ module _ (F G : ChainTable) where
 pub removed_writes : (m : List ℕ) (x : Link) → Writes columns m (removed m x).memory
 unfolding removed
 removed_writes m x =
-    given_holds (λ o. Unit {0}) (λ (r : Outcome). Writes columns m r.memory) (found m x) _ _ tt (same columns m)
+    given_holds (λ o. Unit {0}) (λ (r : Outcome). Writes columns m r.memory) (looked_up m x) _ _ tt (same columns m)
     (λ e u. after columns (stepped OUT IN) m _ _ refl (stepped_writes OUT IN _ e) (then_unhooked columns OUT refl m m (same columns m) e))
 
 pub out_emptied_writes : (m : List ℕ) (s : ℕ) → Writes columns m (emptied OUT IN m s)

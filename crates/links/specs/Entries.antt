@@ -6,14 +6,14 @@
 --   freed m e          the memory after an entry was taken out of the chains of pairs and of ages, and given back
 --   inserted m x       the memory after a link was put in
 --   sought n xs        the first entry of a chain whose label is n
---   reached o          the entry o, if the table has it
---   found m x          the entry of a link
+--   looked_up m x      the entry that the chains have for a link; in a garbage memory it may be past the last
+--   found m x          the entry of a link; past the last it is cut off
 --   Outcome            what an operation answers, and the memory after it; refused m e: refused, and nothing changed
 --   removed m x        a link taken out
 --   dropped f F G m p  the memory after f entries of a chain of F, from the place p on, were given back and taken out of their chains of G
 --   emptied F G m s    the same for all of the chain of s, which is empty then
 --   removed_all m s    the memory after all links out of a slot and into it were taken out
-use Rattle.std.specs.Prelude.{ℕ, zero, suc, ◌+◌, ◌-◌, ◌^◌, ◌%◌, cond, List, Some, None, Option, Ok, Err, Result, ◌==◌, nat_le, nat_lt}
+use Rattle.std.specs.Prelude.{ℕ, zero, suc, ◌+◌, ◌-◌, ◌^◌, ◌%◌, min, cond, List, Some, None, Option, Ok, Err, Result, ◌==◌, nat_lt}
 use Rattle.std.specs.Option.{option_map}
 use Rattle.std.specs.List.{find}
 use Rattle.memory.specs.Columns.{cell, written}
@@ -65,11 +65,11 @@ inserted m x = cond (is_between x) (given (free_entry m) (taken m) (λ e. counte
 abbrev pub sought : ℕ → List Pointer → Option ℕ
 sought n xs = option_map (λ q. q.held) (find (λ q. q.label == n) xs)
 
-abbrev pub reached : Option ℕ → Option ℕ
-reached o = given o None (λ e. cond (nat_le e ENTRIES) (Some e) None)
+unfoldable pub looked_up : List ℕ → Link → Option ℕ
+looked_up m x = cond (is_between x) (sought (pair x) (walked ENTRIES PAIR m (bucket x))) None
 
 unfoldable pub found : List ℕ → Link → Option ℕ
-found m x = cond (is_between x) (reached (sought (pair x) (walked ENTRIES PAIR m (bucket x)))) None
+found m x = option_map (λ e. min e ENTRIES) (looked_up m x)
 
 pub record Outcome : Type 0 where
   pub answer : Result ℕ Refusal
@@ -80,7 +80,7 @@ refused m e = record { answer = Err e; memory = m }
 
 unfoldable pub removed : List ℕ → Link → Outcome
 removed m x =
-    given (found m x) (refused m Missing) (λ e. record { answer = Ok e; memory = freed (unhooked IN (unhooked OUT m e) e) e })
+    given (looked_up m x) (refused m Missing) (λ e. record { answer = Ok e; memory = freed (unhooked IN (unhooked OUT m e) e) e })
 
 unfoldable pub dropped : ℕ → ChainTable → ChainTable → List ℕ → ℕ → List ℕ
 dropped zero F G m p = m

@@ -1,7 +1,7 @@
 // From a link to its entry, by the chain of its bucket.
 ghost use Rattle.std.specs.Prelude.{◌≡◌, ◌≤◌, IfSome};
 ghost use Rattle.chains.specs.Walks.{walked};
-ghost use Rattle.links.specs.Entries.{sought, found};
+ghost use Rattle.links.specs.Entries.{sought, looked_up, found};
 ghost use Rattle.links.specs.Laws.{Finds};
 
 use crate::layout::{ENTRIES, PAIR};
@@ -19,17 +19,25 @@ fn seek(memory: &Memory, key: u64, label: u64) -> Option<u64>
         .map(|pointer| pointer.held)
 }
 
-// The entry of a link, if it's there. A garbage memory may name one that the table hasn't got.
-#[tactic(auto, using(crate::proofs::Promises::finds_so), unfolding(crate::specs::Entries::found))]
+// The entry that the chains have for a link, if it's there. In a garbage memory it may be past the last.
+#[tactic(auto, unfolding(crate::specs::Entries::looked_up))]
 #[inline(never)]
+pub(crate) fn look_up(memory: &Memory, link: Link) -> Option<u64>
+    ensures { result ≡ looked_up memory.now link }
+{
+    if !is_between(link) {
+        return None;
+    }
+    seek(memory, bucket(link), pair(link))
+}
+
+// The entry of a link, if it's there; past the last it is cut off.
+#[tactic(auto, using(crate::proofs::Promises::finds_so), unfolding(crate::specs::Entries::found))]
+#[inline(always)]
 pub fn find(memory: &Memory, link: Link) -> Option<u64>
     ensures is { result ≡ found memory.now link }
     ensures below { IfSome result (λ entry. entry ≤ ENTRIES) }
     ensures finds { Finds memory.now link result }
 {
-    if !is_between(link) {
-        return None;
-    }
-    let entry = seek(memory, bucket(link), pair(link))?;
-    (entry <= ENTRIES).then_some(entry)
+    look_up(memory, link).map(|entry| entry.min(ENTRIES))
 }

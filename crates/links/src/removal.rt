@@ -7,7 +7,7 @@ ghost use Rattle.links.specs.Laws.{Removes, RemovesAll};
 
 use crate::entries::give_back;
 use crate::layout::{ENTRIES, IN, OUT};
-use crate::lookup::find;
+use crate::lookup::look_up;
 use chains::ChainTable;
 use memory::Memory;
 use order::{CARDS, Link, Refusal};
@@ -21,7 +21,7 @@ pub fn remove(memory: &mut Memory, link: Link) -> Result<u64, Refusal>
     ensures wrote { Writes columns memory.old memory.new }
     ensures removes { Removes memory.old link result memory.new }
 {
-    let Some(entry) = find(memory, link) else {
+    let Some(entry) = look_up(memory, link) else {
         return Err(Refusal::Missing);
     };
     OUT.unhook(memory, entry);
