@@ -4,6 +4,7 @@ pub mod Along
 pub mod Counting
 pub mod Turning
 pub mod Firsts
+pub mod Resting
 pub mod Halving
 pub mod Steps
 pub mod Seatings

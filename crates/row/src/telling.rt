@@ -2,7 +2,7 @@
 ghost use Rattle.std.specs.Prelude.{◌≡◌, ◌≤◌, ◌<◌, ◌%◌, ◌^◌, ◌+◌, count_ones};
 ghost use Rattle.row.specs.Meaning.{taken};
 ghost use Rattle.row.specs.Laws.{Next, Selects, Tells};
-ghost use Rattle.row.specs.Telling.{Between, NextIn, next_seat, selected, told, told_count};
+ghost use Rattle.row.specs.Telling.{Between, NextIn, next_seat, Rest, selected, told, told_count};
 
 use crate::cards::len;
 use crate::layout::{IDS, SEATS_MOST, SLOTS, TAKEN, WORDS};
@@ -38,6 +38,39 @@ pub fn next(memory: &Memory, seat: u64) -> u64
         from = (word + 1) * 64;
     }
     SEATS_MOST
+}
+
+// The taken seats of its word from a seat on, a bit for each; the lowest is the seat's own.
+fn rest_of(memory: &Memory, seat: u64) -> u64
+    ensures { Rest memory.now seat result }
+{
+    TAKEN.get(memory, seat / 64) >> (seat % 64)
+}
+
+// The first taken seat from this one on, by the bits that are still to come of its word: so the free ones between aren't looked at.
+#[inline(always)]
+fn next_of(memory: &Memory, seat: u64, rest: u64) -> u64
+    requires { Rest memory.now seat rest }
+    ensures is { result ≡ next_seat memory.now seat }
+    ensures below { result ≤ SEATS_MOST }
+{
+    if rest == 0 {
+        return next(memory, seat);
+    }
+    seat + rest.trailing_zeros() as u64
+}
+
+// The bits that are still to come of its word behind the first of these.
+#[inline(always)]
+fn rest_behind(memory: &Memory, seat: u64, rest: u64, found: u64) -> u64
+    requires rest { Rest memory.now seat rest }
+    requires found { (found ≡ next_seat memory.now seat) × (found ≤ SEATS_MOST) }
+    ensures { Rest memory.now (found + 1) result }
+{
+    if rest == 0 {
+        return rest_of(memory, found + 1);
+    }
+    rest >> rest.trailing_zeros() >> 1
 }
 
 // One step of the search for a set bit of a word: it is among the `span` bits from `at` on, or the `span` behind these.
@@ -97,8 +130,10 @@ pub fn tell(memory: &Memory, place: u64, n: u64, out: &mut [u64]) -> u64
         return 0;
     }
     let mut seat = select(memory, place);
+    let mut rest = rest_of(memory, seat);
     for told in 0..n {
-        let found = next(memory, seat);
+        let found = next_of(memory, seat, rest);
+        rest = rest_behind(memory, seat, rest, found);
         out[told as usize] = IDS.get(memory, SLOTS.get(memory, found));
         seat = found + 1;
     }
