@@ -4,8 +4,8 @@ pub mod Along
 pub mod Counting
 pub mod Turning
 pub mod Firsts
-pub mod Resting
 pub mod Halving
+pub mod Resting
 pub mod Steps
 pub mod Seatings
 pub mod Chaining

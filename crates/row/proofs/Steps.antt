@@ -1,13 +1,13 @@
 -- The steps of the loops whose models have fuel: what is left of it, one step on, and at the end.
-use Rattle.std.proofs.Common.{◌≡◌, ℕ, ◌+◌, ◌-◌, ◌<◌, ◌≤◌, Bool, true, false, cond, List, set, Some, None, ap, ◌∙◌}
-use Rattle.std.proofs.lemmas.Bool.{eq-eqb, ne_eqb}
+use Rattle.std.proofs.Common.{◌≡◌, ℕ, ◌+◌, ◌-◌, ◌<◌, ◌≤◌, Bool, true, false, cond, List, set, Some, None, ap, ◌∙◌, refl, inl, inr, zero, suc}
+use Rattle.std.proofs.lemmas.Bool.{eq-eqb, ne_eqb, cases_Bool}
 use Rattle.memory.specs.Columns.{cell, written}
 use Rattle.memory.proofs.Fuel.{fuel_step, fuel_end}
 use Rattle.row.specs.declared.layout.TheConstants.{HEADS, ENDING, IDS, SLOTS}
 use Rattle.row.specs.Lookup.{entry, followed, sought}
 use Rattle.row.specs.Meaning.{taken}
 use Rattle.row.specs.Moves.{drawn, packed_from}
-use Rattle.row.specs.Telling.{next_seat, tells}
+use Rattle.row.specs.Telling.{next_seat, tells, tellable, told, told_count}
 
 -- a card's entry is sought
 module _ (N i p k : ℕ) (m : List ℕ) where
@@ -59,4 +59,19 @@ module _ (N i p : ℕ) (m out : List ℕ) where
   unfolding tells
   tells_on h = fuel_step (λ f. tells f m p i out) N i h
 
-pub ruleset tellings = (tells_end, tells_on)
+-- from seats behind which the same one is next
+pub tells_alike : (N p q : ℕ) (m out : List ℕ) → next_seat m p ≡ next_seat m q → tells N m p 0 out ≡ tells N m q 0 out
+unfolding tells
+tells_alike zero p q m out e = refl
+tells_alike (suc N) p q m out e = ap (λ (s : ℕ). tells N m (s + 1) (0 + 1) (set out 0 (cell m IDS (cell m SLOTS s)))) e
+
+-- of no cards nothing is told
+pub told_none : (m : List ℕ) (p n : ℕ) (out : List ℕ) → n ≡ 0 → out ≡ told m p n out
+unfolding told tells
+told_none m p n out e = rw e (elim (cases_Bool (tellable m p 0 out)) [ inl b ↦ rw b refl | inr b ↦ rw b refl ])
+
+pub none_told : (m : List ℕ) (p n : ℕ) (out : List ℕ) → n ≡ 0 → 0 ≡ told_count m p n out
+unfolding told_count
+none_told m p n out e = rw e (elim (cases_Bool (tellable m p 0 out)) [ inl b ↦ rw b refl | inr b ↦ rw b refl ])
+
+pub ruleset tellings = (tells_end, tells_on, tells_alike, told_none, none_told)

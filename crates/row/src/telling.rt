@@ -118,6 +118,18 @@ pub fn select(memory: &Memory, place: u64) -> u64
     SEATS_MOST
 }
 
+// A seat from which on the cards from a place on sit; for the first place that is the first seat, free or not.
+#[tactic(auto, using(crate::proofs::Resting::first_same))]
+#[inline(always)]
+fn start_at(memory: &Memory, place: u64) -> u64
+    ensures { next_seat memory.now result ≡ next_seat memory.now (selected memory.now place) }
+{
+    if place == 0 {
+        return 0;
+    }
+    select(memory, place)
+}
+
 // Tells the cards from `place` on, `n` of them: they are written to the front of `out`. Says how many: `n`, or none if the row or `out` hasn't so many.
 #[tactic(auto, using(crate::proofs::Contracts::tells_so, crate::proofs::Steps::tellings), unfolding(crate::specs::Telling::told, crate::specs::Telling::told_count))]
 pub fn tell(memory: &Memory, place: u64, n: u64, out: &mut [u64]) -> u64
@@ -125,11 +137,14 @@ pub fn tell(memory: &Memory, place: u64, n: u64, out: &mut [u64]) -> u64
     ensures out { out.new ≡ told memory.now place n out.old }
     ensures law { Tells memory.now place n out.old result out.new }
 {
+    if n == 0 {
+        return 0;
+    }
     let count = len(memory).min(CARDS);
     if place > count || n > count - place || n > out.len() as u64 {
         return 0;
     }
-    let mut seat = select(memory, place);
+    let mut seat = start_at(memory, place);
     let mut rest = rest_of(memory, seat);
     for told in 0..n {
         let found = next_of(memory, seat, rest);
