@@ -46,11 +46,15 @@ fn drop_along(memory: &mut Memory, along: ChainTable, across: ChainTable, slot: 
     }
 }
 
-// Gives back all entries of a slot's chain, and empties it.
-#[tactic(auto, unfolding(crate::specs::Entries::emptied))]
+// Gives back all entries of a slot's chain, and empties it. Most chains of a card that goes have none.
+#[tactic(auto, using(crate::proofs::Turns::emptied_blank), unfolding(crate::specs::Entries::emptied))]
+#[inline(always)]
 fn empty(memory: &mut Memory, along: ChainTable, across: ChainTable, slot: u64)
     ensures { memory.new ≡ emptied along across memory.old slot }
 {
+    if along.cells.get(memory, slot) == 0 {
+        return;
+    }
     drop_along(memory, along, across, slot);
     along.clear(memory, slot);
 }
