@@ -30,7 +30,7 @@ use Rattle.batch.specs.declared.layout.TheConstants.{SPARE, LEAVES}
 use Rattle.batch.specs.Columns.{packing}
 use Rattle.batch.specs.Renewing.{cleared, counts, frees, prepared, drawn, Renewed, renewing, drawn_all, renewed}
 use Rattle.batch.specs.RenewLaws.{MadeAnew, Renews}
-use Rattle.batch.specs.Rule.{waits, first_free, without, by_rule, anew}
+use Rattle.batch.specs.Rule.{first_free, without, by_rule, anew}
 use Rattle.batch.specs.RuleLaws.{within_row}
 use Rattle.batch.proofs.Counting.{to_it, Counted, counts_so}
 use Rattle.batch.proofs.Denseness.{dense_packed, few, row_is, row_once, slot_used, dense_kept}

@@ -49,7 +49,7 @@ use Rattle.order.proofs.Climbs.{fine_parts}
 use Rattle.order.proofs.Tabulated.{made_same, made_apart, distinct_made, take_made}
 use Rattle.order.proofs.Parts.{with_part, row_in_parts}
 use Rattle.batch.specs.SeatLaws.{Seated}
-use Rattle.batch.proofs.Reseating.{reseats}
+use Rattle.batch.proofs.Reseating.{reseats_dense}
 use Rattle.batch.proofs.Writing.{reseated_writes}
 use Rattle.batch.proofs.Within.{as_long}
 use Rattle.batch.proofs.SeveralBetween.{SameEnds, middle, same_middle}
@@ -201,7 +201,7 @@ module _ (m m' : List ℕ) (r : Board) (row : List ℕ) (lo n : ℕ) (M : Means 
   m'' = reseated n m' lo
 
   seated : Seated m' m'' lo n (map (cell m' SPARE) ps)
-  seated = reseats m' lo n P.dense_since few_since each_once same
+  seated = reseats_dense m' lo n P.dense_since few_since each_once same
 
   frame : Writes (SLOTS ∷ SEATS ∷ []) m' m''
   frame = reseated_writes n m' lo (omega (arith, few_since, few m' P.dense_since))

@@ -15,7 +15,8 @@ use Rattle.memory.specs.Footprints.{at_each, Writes, View, view}
 use Rattle.memory.proofs.Footprints.{kept}
 use Rattle.row.specs.declared.layout.TheConstants.{SEATS_MOST, COUNT, ENDING, FRESH, FREE, IDS, CHAIN, SLOTS, SEATS, TAKEN}
 use Rattle.row.specs.Meaning.{bit_set, in_use, count, ending, fresh, free, taken, row_of, cards, used, Standing}
-use Rattle.row.specs.Moves.{put_at}
+use Rattle.row.specs.Moves.{put_at, packed}
+use Rattle.row.proofs.Again.{packs}
 use Rattle.row.proofs.Named.{length_slots}
 use Rattle.search.proofs.Gathering.{put, put_apart, put_slots, put_places}
 use Rattle.search.proofs.Exchanged.{with_at, at_here, exchanged, exchanged_out}
@@ -26,8 +27,8 @@ use Rattle.batch.specs.declared.layout.TheConstants.{SPARE}
 use Rattle.batch.specs.Columns.{seated as seated_columns}
 use Rattle.batch.specs.Dense.{Dense}
 use Rattle.batch.specs.Seating.{reseated}
-use Rattle.batch.specs.SeatLaws.{Seated, Reseats}
-use Rattle.batch.proofs.Denseness.{few, held, row_is}
+use Rattle.batch.specs.SeatLaws.{Seated, ReseatsIn, Reseats}
+use Rattle.batch.proofs.Denseness.{dense_packed, few, held, row_is}
 use Rattle.batch.proofs.Writing.{reseated_writes}
 
 -- the places are given to the slots put aside for them, one after another
@@ -158,8 +159,11 @@ module _ (m : List ℕ) (lo n : ℕ) (D : Dense m) (in_row : lo + n ≤ count m)
   pub seated_so : Seated m m' lo n ks
   seated_so = record { dense = dense_so; row_is = row_so; same_used = used_so }
 
+pub reseats_dense : (m : List ℕ) (lo n : ℕ) → Dense m → ReseatsIn m lo n
+reseats_dense m lo n D in_row once same = seated_so m lo n D in_row once same
+
 pub reseats : Reseats
-reseats m lo n D in_row once same = seated_so m lo n D in_row once same
+reseats = (reseats_dense, λ m lo n S. reseats_dense (packed m) lo n (dense_packed m (packed m) (packs m S)))
 
 -- the cards, if their numbers are as they were
 pub cards_by : (m m' : List ℕ) → ((j : ℕ) → cell m' IDS j ≡ cell m IDS j) → cards m' ≡ map (cell m IDS) (row_of m')
@@ -176,7 +180,7 @@ pub row_seated : (m : List ℕ) → Dense m → (n : ℕ) → n ≡ count m → 
     ((s : ℕ) → has ks s ≡ has (row_of m) s) → RowSeated m (reseated n m 0) ks
 row_seated m D n all ks aside once same =
     let row_all : map (cell m SLOTS) (range_with_len 0 n) ≡ row_of m = rw all (sym (row_is m D)) in
-    let S : Seated m (reseated n m 0) 0 n (map (cell m SPARE) (range_with_len 0 n)) = reseats m 0 n D (omega arith) (rw aside once) (λ s. rw (aside, row_all) (same s)) in
+    let S : Seated m (reseated n m 0) 0 n (map (cell m SPARE) (range_with_len 0 n)) = reseats_dense m 0 n D (omega arith) (rw aside once) (λ s. rw (aside, row_all) (same s)) in
     record {
       wrote = reseated_writes n m 0 (omega (arith, few m D));
       dense = S.dense;

@@ -1,5 +1,5 @@
 -- The rule, step by step, and the row that comes by it: the rule gives it, it is the only one, it has the given row's cards, and it keeps the links.
-use Rattle.std.proofs.Common.{◌≡◌, ℕ, zero, suc, ◌<◌, true, false, not, ◌&&◌, eqb, ltb, ◌⊎◌, List, [], ◌∷◌, length, Some, None, Option, sym, refl, ap, ap₂, subst, inl, inr, arith}
+use Rattle.std.proofs.Common.{◌≡◌, ℕ, zero, suc, ◌<◌, true, false, not, ◌&&◌, eqb, ltb, ◌⊎◌, List, [], ◌∷◌, length, Some, None, Option, sym, refl, ◌∙◌, ap, ap₂, subst, inl, inr, arith}
 use Rattle.std.proofs.lemmas.Bool.Decides.{nat_tests}
 use Rattle.std.proofs.lemmas.Bool.{cases_Bool, cases_eq, cases_order, both_ways, or_cases, or_right, and_parts, and_from, eq-eqb, lt-ltb}
 use Rattle.order.specs.declared.board.Link.{Link}
@@ -8,7 +8,7 @@ use Rattle.order.proofs.Filters.{every_at, every_from, has_filter, distinct_filt
 use Rattle.order.proofs.Members.{has_head, has_tail, has_on}
 use Rattle.order.proofs.Places.{place_same}
 use Rattle.order.proofs.Ways.{joins}
-use Rattle.batch.specs.Rule.{waits, first_free, without, by_rule, Ruled}
+use Rattle.batch.specs.Rule.{waits, first_free, without, by_rule, anew, Ruled}
 use Rattle.batch.specs.RuleLaws.{AnewRuled, RuledOnly, RuledCards, RuledKeeps}
 use Rattle.batch.proofs.Within.{has_without, length_without}
 
@@ -100,11 +100,17 @@ pub anew_ruled : AnewRuled
 anew_ruled ls row d e = all_ruled ls (length row) row d refl e
 
 -- there is only one such row: of two cards that could come next, each would wait if the other stood before it
-one_next : (ls : List Link) (left : List ℕ) (j k : ℕ) → Next ls left left j → Next ls left left k → j ≡ k
-one_next ls left j k a b = elim (cases_order (place left j) (place left k)) [
-  | inl e ↦ place_same left j k a.there e
+one_next : (ls : List Link) (left ks : List ℕ) (j k : ℕ) → Next ls left ks j → Next ls left ks k → j ≡ k
+one_next ls left ks j k a b = elim (cases_order (place ks j) (place ks k)) [
+  | inl e ↦ place_same ks j k a.there e
   | inr (inl l) ↦ absurd (both_ways _ a.free (b.before j a.there l))
   | inr (inr l) ↦ absurd (both_ways _ b.free (a.before k b.there l))
+]
+
+pub next_first : (ls : List Link) (left ks : List ℕ) (k : ℕ) → Next ls left ks k → first_free ls left ks ≡ Some k
+next_first ls left ks k n = elim (none_or_some (first_free ls left ks)) [
+  | inl e ↦ absurd (both_ways _ n.free (none_free ls left ks k e n.there))
+  | inr (j, e) ↦ e ∙ ap Some (one_next ls left ks j k (first_next ls left ks j e) n)
 ]
 
 none_left : (ls : List Link) (left : List ℕ) (k : ℕ) (ks : List ℕ) → Ruled ls left [] → Ruled ls left (k ∷ ks) → ⊥
@@ -118,7 +124,7 @@ ruled_only ls row (j ∷ js) [] r s = absurd (none_left ls row j js s r)
 ruled_only ls row (j ∷ js) (k ∷ ks) r s =
     let p = ruled_next ls row j js r in
     let q = ruled_next ls row k ks s in
-    let e = one_next ls row j k p.0 q.0 in
+    let e = one_next ls row row j k p.0 q.0 in
     ap₂ ◌∷◌ e (ruled_only ls (without row k) js ks (rw e at p.1) q.1)
 
 pub ruled_cards : RuledCards
@@ -135,6 +141,17 @@ ruled_cards ls row (k ∷ ks) d r =
       omega arith,
       λ j. let hj = n.2 j in let ej = has_filter (λ i. not (eqb i k)) row j in grind (arith, nat_tests),
     )
+
+-- a row that comes by the rule is what the rule gives
+by_rule_is : (ls : List Link) (left new : List ℕ) → Ruled ls left new → by_rule (length new) ls left ≡ new
+unfolding by_rule
+by_rule_is ls left [] r = refl
+by_rule_is ls left (k ∷ ks) r =
+    let p = ruled_next ls left k ks r in
+    rw (next_first ls left left k p.0) (ap (λ (zs : List ℕ). k ∷ zs) (by_rule_is ls (without left k) ks p.1))
+
+pub ruled_anew : (ls : List Link) (row new : List ℕ) → distinct row ≡ true → Ruled ls row new → anew ls row ≡ new
+ruled_anew ls row new d r = ap (λ (n : ℕ). by_rule n ls row) (sym (ruled_cards ls row new d r).1) ∙ by_rule_is ls row new r
 
 -- it keeps each link between cards of the given row
 pub ruled_before : (ls : List Link) (row new : List ℕ) (a b : ℕ) → Ruled ls row new → joins ls a b ≡ true → has row a ≡ true → has row b ≡ true →

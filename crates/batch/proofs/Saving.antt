@@ -1,18 +1,25 @@
 -- A column filled number by number: what stands in it, and that nothing else changes; so a column is wiped, and the row put aside.
-use Rattle.std.proofs.Common.{◌≡◌, ℕ, zero, suc, ◌+◌, ◌^◌, ◌<◌, ◌≤◌, ◌⊎◌, List, [], ◌∷◌, map, length, sym, refl, ap, ◌∙◌, subst, inl, inr, arith}
+use Rattle.std.proofs.Common.{◌≡◌, ℕ, zero, suc, ◌+◌, ◌^◌, ◌<◌, ◌≤◌, ◌⊎◌, List, [], ◌∷◌, map, length, take, drop, sym, refl, ap, ◌∙◌, subst, inl, inr, arith}
 use Rattle.std.specs.List.{range_with_len}
 use Rattle.std.proofs.lemmas.Bool.{cases_eq}
-use Rattle.order.proofs.Tabulated.{made_same}
+use Rattle.order.specs.declared.board.TheConstants.{CARDS}
+use Rattle.order.proofs.Tabulated.{made_same, take_made}
 use Rattle.memory.specs.declared.column.Column.{Column}
 use Rattle.memory.specs.Columns.{cell, written, wiped}
 use Rattle.memory.specs.Footprints.{Small, Writes, at_each}
 use Rattle.memory.proofs.Cells.{length_written, cell_same, cell_other, cell_apart, small_cell}
 use Rattle.memory.proofs.Footprints.{put_one, each}
 use Rattle.row.specs.declared.layout.TheConstants.{SLOTS}
+use Rattle.row.specs.Meaning.{count}
+use Rattle.row.specs.Moves.{packed}
+use Rattle.row.proofs.Again.{packs}
+use Rattle.row.proofs.Framing.{packed_writes}
 use Rattle.batch.specs.declared.layout.TheConstants.{SPARE}
 use Rattle.batch.specs.Arranging.{filled}
 use Rattle.batch.specs.Seating.{saved}
-use Rattle.batch.specs.SeatLaws.{Saves}
+use Rattle.batch.specs.Dense.{Dense}
+use Rattle.batch.specs.SeatLaws.{Saves, SavesIn}
+use Rattle.batch.proofs.Denseness.{dense_packed, few, row_is}
 
 module _ (v : List ℕ → ℕ → ℕ) (c : Column) where
   filled_out : (f : ℕ) (m : List ℕ) (i j : ℕ) → (j < i) ⊎ (i + f ≤ j) → cell (filled v c f m i) c j ≡ cell m c j
@@ -59,11 +66,24 @@ module _ (c : Column) where
   wiped_in f m q l b h = rw (wiped_is f m 0) (filled_in (λ _ _. 0) c (λ _ _ _ _. refl) f m 0 q l (omega arith) (omega arith) h)
 
 -- the row is put aside: the slot at each place is written down
+pub saved_in : (m : List ℕ) (p n : ℕ) → SPARE.base + SPARE.size ≤ length m → (q : ℕ) → p ≤ q → q < p + n → q < CARDS →
+    cell (saved n m p) SPARE q ≡ cell m SLOTS q
+unfolding saved filled
+saved_in m p n l q a b h = filled_in (λ m₁. cell m₁ SLOTS) SPARE (λ m₁ i j k. cell_apart m₁ SPARE SLOTS i j k refl) n m p q l a b h
+
+saved_part : (m : List ℕ) (p n : ℕ) → SPARE.base + SPARE.size ≤ length m → Dense m → SavesIn m p n
+saved_part m p n l D h =
+    let f = few m D in
+    made_same (cell (saved n m p) SPARE) (cell m SLOTS) p n (λ q a b. saved_in m p n l q a b (omega arith))
+    ∙ sym (ap (λ (ks : List ℕ). take n (drop p ks)) (row_is m D) ∙ take_made (cell m SLOTS) (count m) p n h)
+
 pub saves : Saves
 unfolding saved filled
 saves m p n l = (
-  λ q a b h. filled_in (λ m₁. cell m₁ SLOTS) SPARE (λ m₁ i j k. cell_apart m₁ SPARE SLOTS i j k refl) n m p q l a b h,
+  saved_in m p n l,
   λ q h. filled_out (λ m₁. cell m₁ SLOTS) SPARE n m p q h,
+  saved_part m p n l,
+  λ S. let e = (packed_writes m).as_long in saved_part (packed m) p n (omega arith) (dense_packed m (packed m) (packs m S)),
 )
 
 pub saved_writes : (m : List ℕ) (p n : ℕ) → Writes (SPARE ∷ []) m (saved n m p)

@@ -16,7 +16,7 @@ use Rattle.memory.specs.PlaceSetLaws.{CellsAlone}
 use Rattle.memory.proofs.Alone.{cells_alone}
 use Rattle.memory.proofs.Footprints.{after}
 use Rattle.row.specs.declared.layout.TheConstants.{IDS}
-use Rattle.row.specs.Meaning.{row_of, cards, used, count}
+use Rattle.row.specs.Meaning.{row_of, used, count}
 use Rattle.row.proofs.Named.{has_used, row_used, length_slots, slots_named}
 use Rattle.row.proofs.Present.{apart}
 use Rattle.links.specs.Table.{edges, once}

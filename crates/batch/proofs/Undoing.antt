@@ -37,7 +37,7 @@ use Rattle.batch.specs.Dense.{Dense}
 use Rattle.batch.specs.JoinLaws.{AllIn, Stopped}
 use Rattle.batch.specs.Seating.{reseated}
 use Rattle.batch.specs.Saying.{undone}
-use Rattle.batch.proofs.Saving.{saves, saved_writes}
+use Rattle.batch.proofs.Saving.{saved_in, saved_writes}
 use Rattle.batch.proofs.Denseness.{few}
 use Rattle.batch.proofs.SeveralBetween.{several_between, SameEnds, ends_within}
 use Rattle.batch.proofs.SaidSize.{tried_columns, Trying, tried_so, taken_out_writes}
@@ -174,7 +174,7 @@ module _ (m : List ℕ) (r : Board) (ls ks : List Link) (s : Span) (row : List �
       dense_since = still_dense (SPARE ∷ tried_columns) m m₃ refl refl frame M₃.ready.is_row D;
       same_ids = λ j. frame.others IDS j refl;
       same_chain = λ j. frame.others CHAIN j refl;
-      aside = λ p l u. tried_frame.others SPARE p refl ∙ (saves m lo size (omega arith)).0 p l u (omega (arith, inside, room));
+      aside = λ p l u. tried_frame.others SPARE p refl ∙ saved_in m lo size (omega arith) p l u (omega (arith, inside, room));
     }
 
     pub undone_so : Means (undone m₂ ks (Some s)) r

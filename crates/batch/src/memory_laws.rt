@@ -14,7 +14,7 @@ pub fn columns_apart_stands()
     ensures lie { all_lie MEMORY all_columns ≡ true }
 {}
 
-// What is put aside is the slots of the places that were asked for.
+// What is put aside is the slots of the places that were asked for, once the row is packed.
 pub fn saves_stands() -> u8
     ensures { Saves }
 {

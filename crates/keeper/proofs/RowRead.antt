@@ -10,7 +10,7 @@ use Rattle.row.proofs.Present.{length_cards}
 use Rattle.row.proofs.Tellings.{tells_middle}
 use Rattle.keeper.specs.Meaning.{Means}
 use Rattle.keeper.specs.Playing.{row_read, read_count}
-use Rattle.keeper.specs.PlayLaws.{ReadsRow}
+use Rattle.keeper.specs.PlayLaws.{Reads, ReadsRow}
 
 module _ (m : List ℕ) (r : Board) (out : List ℕ) (M : Means m r) (h : length r.row ≤ length out) where
   tells_row : (told_count m 0 (count m) out ≡ length r.row) × (told m 0 (count m) out ≡ r.row ++ drop (length r.row) out)
@@ -30,4 +30,7 @@ module _ (m : List ℕ) (r : Board) (out : List ℕ) (M : Means m r) (h : length
   reads l = let e = eq-eqb (length m) MEMORY l in rw e tells_row
 
 pub reads_row : ReadsRow
-reads_row m r out M h = (tells_row m r out M h, reads m r out M h)
+reads_row = (tells_row, λ m out r l M h. reads m r out M h l)
+
+pub reads_it : (m out : List ℕ) (n : ℕ) (out₁ : List ℕ) → n ≡ read_count m out → out₁ ≡ row_read m out → Reads m out n out₁
+reads_it m out n out₁ i w r l M h = let q = reads m r out M h l in (i ∙ q.0, w ∙ q.1)

@@ -44,3 +44,14 @@ module _ (e : Engine) (m m₁ m₂ : List ℕ) (ev : Event) (ks : List ℕ) (h :
 
   pub shows_refused : (k : ℕ) → 1 ≤ k → k < 1000 → e.step m₁ Next ≡ steps_to m₂ (refused k) → runs 3 e m ev [] [] ≡ ran m₂ [] (ks ∷ []) k
   shows_refused k l u g = run_shows 2 e m m₁ ev [] [] ks h ∙ run_refused 1 e m₁ m₂ Next [] (ks ∷ []) k l u g
+
+module _ (e : Engine) (m m₁ m₂ : List ℕ) (ev : Event) (i : ℕ) (ks : List ℕ) (l : length ks ≤ TOLD) (h : e.step m ev ≡ steps_to m₁ (tells i ks)) where
+  pub tells_done : e.step m₁ Next ≡ steps_to m₂ done → runs 3 e m ev [] [] ≡ ran m₂ (told i ks ∷ []) [] 0
+  tells_done g = run_tells 2 e m m₁ ev [] [] i ks l h ∙ run_done 1 e m₁ m₂ Next (told i ks ∷ []) [] g
+
+  pub tells_tells_done : (m₃ : List ℕ) (j : ℕ) (js : List ℕ) → length js ≤ TOLD →
+      e.step m₁ Next ≡ steps_to m₂ (tells j js) → e.step m₂ Next ≡ steps_to m₃ done →
+      runs 3 e m ev [] [] ≡ ran m₃ (told i ks ∷ told j js ∷ []) [] 0
+  tells_tells_done m₃ j js u g f =
+      run_tells 2 e m m₁ ev [] [] i ks l h ∙ run_tells 1 e m₁ m₂ Next (told i ks ∷ []) [] j js u g
+      ∙ run_done 0 e m₂ m₃ Next (told i ks ∷ told j js ∷ []) [] f

@@ -5,6 +5,8 @@
 --   Plays            from a memory that means a board on, a command that the board lets be done is done, and the memory then means the board after it; a
 --                    command that the board refuses is refused for the board's reason, and the memory means the same board
 --   PlaysUnfit       where the memory or the output doesn't fit, the command is refused, and nothing is changed
+--   Reads m out n out₁  n is answered, and out₁ is what is written, of the memory m to the output `out`: if m means a board, and there is room, how many
+--                    cards the board has, and its row at the output's front
 --   ReadsRow         the row that is told, and the row that is read, from a memory that means a board is the board's
 use Rattle.std.specs.Prelude.{◌≡◌, ℕ, ◌≤◌, true, false, List, ◌++◌, length, drop, Some, None, Ok, Err}
 use Rattle.command.specs.declared.command.Command.{Command}
@@ -37,8 +39,12 @@ PlaysUnfit =
     (m : List ℕ) (c : Command) (out : List ℕ) → step_fits m out ≡ false →
     played m c out ≡ record { answer = record { shown = 0; outcome = Err Unfit }; memory = m; out = out }
 
+abbrev pub Reads : List ℕ → List ℕ → ℕ → List ℕ → Type 0
+Reads m out n out₁ =
+    (r : Board) → length m ≡ MEMORY → Means m r → length r.row ≤ length out → (n ≡ length r.row) × (out₁ ≡ r.row ++ drop (length r.row) out)
+
 abbrev pub ReadsRow : Type 0
 ReadsRow =
-    (m : List ℕ) (r : Board) (out : List ℕ) → Means m r → length r.row ≤ length out →
-    ((told_count m 0 (count m) out ≡ length r.row) × (told m 0 (count m) out ≡ r.row ++ drop (length r.row) out))
-    × (length m ≡ MEMORY → (read_count m out ≡ length r.row) × (row_read m out ≡ r.row ++ drop (length r.row) out))
+    ((m : List ℕ) (r : Board) (out : List ℕ) → Means m r → length r.row ≤ length out →
+    (told_count m 0 (count m) out ≡ length r.row) × (told m 0 (count m) out ≡ r.row ++ drop (length r.row) out))
+    × ((m out : List ℕ) → Reads m out (read_count m out) (row_read m out))

@@ -15,11 +15,12 @@ pub use event::{Act, Event, Reason, Telling};
 pub use layout::{MORE_FROM, MORE_TO, OUTPUT, Output, PENDING, TOLD};
 pub use linking::slots_of;
 pub use memory::{MEMORY, Memory};
+pub use order::LINKS;
 pub use pending::Pending;
 pub use playing::{Played, play, play_on, read_row};
 pub use stepping::{hear, step};
 pub use theory::{
-    end_stays_stands, endless_is_not_stands, fits_stands, idle_is_not_stands, one_board_stands,
-    plays_stands, plays_unfit_stands, reads_row_stands, soon_is_more_stands, whole_in_stands,
-    whole_stands,
+    end_stays_stands, endless_is_not_stands, fits_stands, idle_is_not_stands, limits_stand,
+    one_board_stands, plays_stands, plays_unfit_stands, reads_row_stands, soon_is_more_stands,
+    whole_in_stands, whole_stands,
 };

@@ -1,6 +1,6 @@
 // Links are made and taken back. Each check hands on its value or leaves with the refusal, by `let .. else`: this is the form of all commands, here and in
 // the crates below, so that what is refused can be seen to have changed nothing.
-ghost use Rattle.std.specs.Prelude.{◌≡◌, Ok};
+ghost use Rattle.std.specs.Prelude.{◌≡◌, ◌<◌, Ok, IfSome};
 ghost use Rattle.keeper.specs.Answers.{Gives, Ends, as_told};
 ghost use Rattle.keeper.specs.Linking.{slots_found, unlinked, put_in, shown_itself, linked};
 
@@ -10,14 +10,15 @@ use crate::pending::Pending;
 use crate::reordering::reorder;
 use links::{insert, remove};
 use memory::Memory;
-use order::{LINKS, Link, Refusal};
+use order::{CARDS, LINKS, Link, Refusal};
 use row::{find, seat_of};
 
-// The slots of two cards, if both are there.
+// The slots of two cards, if both are there; whatever the memory, both are below 8,192.
 #[tactic(auto, unfolding(crate::specs::Linking::slots_found))]
 #[inline(always)]
 pub fn slots_of(memory: &Memory, link: Link) -> Option<Link>
-    ensures { result ≡ slots_found memory.now link }
+    ensures is { result ≡ slots_found memory.now link }
+    ensures below { IfSome result (λ slots. slots.from < CARDS × slots.to < CARDS) }
 {
     Some(Link {
         from: find(memory, link.from)?,

@@ -4,7 +4,7 @@ ghost use Rattle.keeper.specs.Own.{own};
 ghost use Rattle.keeper.specs.declared.event.Event.TheVariants.{Next};
 ghost use Rattle.keeper.specs.declared.event.Telling.TheVariants.{PassedOver};
 ghost use Rattle.keeper.specs.Playing.{stepped, StepsTo, shown_then, ended_by, played_on, played, Went, read_count, row_read};
-ghost use Rattle.keeper.specs.PlayLaws.{Plays, ReadsRow};
+ghost use Rattle.keeper.specs.PlayLaws.{Plays, Reads, ReadsRow};
 ghost use Rattle.keeper.specs.Promise.{Whole};
 ghost use Rattle.keeper.specs.Sister.{WholeIn};
 
@@ -101,6 +101,7 @@ pub fn play(memory: &mut [u64], command: Command, out: &mut [u64]) -> Played
 pub fn read_row(memory: &[u64], row: &mut [u64]) -> u64
     ensures is { result ≡ read_count memory.now row.old }
     ensures row { row.new ≡ row_read memory.now row.old }
+    ensures reads { Reads memory.now row.old result row.new }
     ensures right { ReadsRow }
 {
     let Some(memory) = memory.as_array() else {

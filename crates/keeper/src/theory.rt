@@ -1,10 +1,14 @@
 // What is proved of engines: a function for each statement, whose contract it is.
+ghost use Rattle.std.specs.Prelude.{◌≡◌};
 ghost use Rattle.keeper.specs.Own.{own};
 ghost use Rattle.keeper.specs.Promise.{Whole};
 ghost use Rattle.keeper.specs.Sister.{WholeIn, SoonIsMore, EndStays, OneBoard};
 ghost use Rattle.keeper.specs.Sized.{Fits};
 ghost use Rattle.keeper.specs.Excluded.{IdleIsNot, EndlessIsNot};
 ghost use Rattle.keeper.specs.PlayLaws.{Plays, PlaysUnfit, ReadsRow};
+
+use crate::layout::{OUTPUT, TOLD};
+use memory::MEMORY;
 
 // What meets the firmer promise meets the promise.
 #[tactic(auto, using(crate::proofs::Simulation::soon_is_more))]
@@ -69,4 +73,11 @@ pub fn plays_unfit_stands()
 // The row that is read is the board's.
 pub fn reads_row_stands()
     ensures { ReadsRow }
+{}
+
+// How much room there has to be, and how many cards are told at once: the numbers that README names.
+pub fn limits_stand()
+    ensures memory { MEMORY ≡ 524288 }
+    ensures output { OUTPUT ≡ 8192 }
+    ensures told { TOLD ≡ 4096 }
 {}

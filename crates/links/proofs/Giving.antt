@@ -1,5 +1,6 @@
 -- What walks along the chains give.
-use Rattle.std.proofs.Common.{◌≡◌, ℕ, Bool, ◌+◌, ◌<◌, ◌≤◌, ◌&&◌, eqb, List, [], ◌∷◌, map, filter, reverse, refl, lit≤, arith}
+use Rattle.std.proofs.Common.{◌≡◌, ℕ, Bool, true, ◌+◌, ◌<◌, ◌≤◌, ◌&&◌, eqb, List, [], ◌∷◌, map, filter, reverse, sym, refl, ap, ◌∙◌, lit≤, arith}
+use Rattle.std.specs.List.{list_all}
 use Rattle.std.proofs.lemmas.List.{reverse-reverse, map-append}
 use mathlib.Core.List.{reverse-cons}
 use Rattle.memory.specs.Footprints.{view}
@@ -11,10 +12,11 @@ use Rattle.chains.specs.declared.cells.Pointer.{Pointer}
 use Rattle.chains.specs.declared.chain_table.ChainTable.{ChainTable}
 use Rattle.chains.specs.Chains.{Holds}
 use Rattle.chains.specs.Walks.{walked}
-use Rattle.links.specs.declared.layout.TheConstants.{ENTRIES, OUT, IN, AGE, ALL}
-use Rattle.links.specs.Pairs.{pair, joins}
+use Rattle.links.specs.declared.layout.TheConstants.{ENTRIES, OUT, IN, AGE, ALL, PAIR}
+use Rattle.links.specs.Pairs.{is_between, pair, unpair, bucket, joins}
 use Rattle.links.specs.Table.{columns, edges, Entry, point, part, TableOf, IsTable}
-use Rattle.links.specs.Laws.{Gives}
+use Rattle.links.specs.Laws.{by_age, Gives}
+use Rattle.links.proofs.Pairing.{unpair_pair}
 use Rattle.links.proofs.Filtering.{any_reverse, any_kept, any_map}
 use Rattle.links.proofs.Telling.{links_of, walked_is, all_walked, edges_is, edges_kept, links_filter}
 
@@ -26,6 +28,13 @@ map_reverse : {A B : Type 0} (f : A → B) (xs : List A) → map f (reverse xs) 
 map_reverse f [] = refl
 map_reverse f (x ∷ xs) =
     let ih = map_reverse f xs in let a = map-append f (reverse xs) (x ∷ []) in let r = reverse-cons x xs in let s = reverse-cons (f x) (map f xs) in cc
+
+-- a chain has the entries that the chain of all has of its links
+part_aged : (key label : Link → ℕ) (k : ℕ) (L : List Entry) → list_all (λ y. is_between y.link) L ≡ true →
+    part key label L k ≡ map (λ x. record { held = x.held; label = label (unpair x.label) }) (kept (λ x. eqb (key (unpair x.label)) k) (map (point pair) L))
+unfolding kept
+part_aged key label k [] a = refl
+part_aged key label k (y ∷ L) a = let ih = part_aged key label k L in let u = unpair_pair y.link in grind arith
 
 module _ (m : List ℕ) (h : IsTable m) where
   abbrev L : List Entry
@@ -52,6 +61,12 @@ module _ (m : List ℕ) (h : IsTable m) where
         let d = any_map (λ i. eqb i k) label (kept (λ y. eqb (key y) s) (edges m)) in
         let l = any_kept (λ y. eqb (key y) s) (λ y. eqb (label y) k) r e (edges m) in cc
 
+    walked_aged : walked ENTRIES F m s ≡ by_age key label m s
+    walked_aged =
+        walked_is F m (part key label L) s c b z ∙ part_aged key label s L t.between
+        ∙ sym (ap (λ (xs : List Pointer). map (λ x. record { held = x.held; label = label (unpair x.label) }) (kept (λ x. eqb (key (unpair x.label)) s) xs))
+        (all_walked m L h.table.free t))
+
   pub out_gives : (s : ℕ) → s < CARDS → map (λ x. x.label) (walked ENTRIES OUT m s) ≡ reverse (map (λ y. y.to) (kept (λ y. eqb y.from s) (edges m)))
   out_gives s b = walked_gives OUT (λ x. x.from) (λ x. x.to) t.outs s b (lit≤ tt)
 
@@ -68,4 +83,8 @@ gives m h = (
   λ a b i. walked_has m h OUT (λ x. x.from) (λ x. x.to) h.table.table.outs a i (lit≤ tt) b (joins (a ⟶ b)) (λ y. refl),
   λ a b i. walked_has m h IN (λ x. x.to) (λ x. x.from) h.table.table.ins b i (lit≤ tt) a (joins (a ⟶ b)) (λ y. grind arith),
   age_gives m h,
+  λ b i. walked_gives m h PAIR bucket pair h.table.table.pairs b i (lit≤ tt),
+  λ s b. walked_aged m h OUT (λ x. x.from) (λ x. x.to) h.table.table.outs s b (lit≤ tt),
+  λ s b. walked_aged m h IN (λ x. x.to) (λ x. x.from) h.table.table.ins s b (lit≤ tt),
+  λ b i. walked_aged m h PAIR bucket pair h.table.table.pairs b i (lit≤ tt),
 )

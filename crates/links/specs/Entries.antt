@@ -9,7 +9,7 @@
 --   looked_up m x      the entry that the chains have for a link; in a garbage memory it may be past the last
 --   found m x          the entry of a link; past the last it is cut off
 --   Outcome            what an operation answers, and the memory after it; refused m e: refused, and nothing changed
---   removed m x        a link taken out
+--   removed m x        a link taken out; its entry is told as `found` has it
 --   dropped f F G m p  the memory after f entries of a chain of F, from the place p on, were given back and taken out of their chains of G
 --   emptied F G m s    the same for all of the chain of s, which is empty then
 --   removed_all m s    the memory after all links out of a slot and into it were taken out
@@ -80,7 +80,7 @@ refused m e = record { answer = Err e; memory = m }
 
 unfoldable pub removed : List ℕ → Link → Outcome
 removed m x =
-    given (looked_up m x) (refused m Missing) (λ e. record { answer = Ok e; memory = freed (unhooked IN (unhooked OUT m e) e) e })
+    given (looked_up m x) (refused m Missing) (λ e. record { answer = Ok (min e ENTRIES); memory = freed (unhooked IN (unhooked OUT m e) e) e })
 
 unfoldable pub dropped : ℕ → ChainTable → ChainTable → List ℕ → ℕ → List ℕ
 dropped zero F G m p = m

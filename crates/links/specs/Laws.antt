@@ -9,8 +9,10 @@
 --   zero_heads F m   the heads of F are zeros
 --   Begins           where the heads and what is counted are zeros, whatever stands in the entries, there is a table with no links; so zeros are
 --   StaysOnce        no link is there twice: so at first, after a link was put in that wasn't there, and after links were taken out
+--   by_age key label m k  what the chain of all has of the links whose key is k: their entries and labels, the newest first
 --   Gives            a walk along a slot's chain gives the links out of it or into it, just these, the newest first: so what it meets at their other
---                    ends is what is linked. A walk along the chain of all gives them all
+--                    ends is what is linked. A walk along a bucket's chain gives the links of the bucket, and along the chain of all, all. At which
+--                    entries they are, each chain says as the chain of all does
 --   SameTable m m'   what the table means, and what walks along its chains meet, is the same in two memories
 --   Depends          so it is if they agree on the table's columns: whoever writes beside them leaves it
 use Rattle.std.specs.Prelude.{◌≡◌, ℕ, ◌+◌, ◌<◌, ◌≤◌, Bool, true, false, not, ◌&&◌, ◌||◌, List, [], ◌∷◌, ◌++◌, map, reverse, length, replicate, is_some, is_ok, Some, Option, Err, Result, ◌==◌}
@@ -27,8 +29,8 @@ use Rattle.order.specs.Lists.{every, any, filter}
 use Rattle.chains.specs.declared.cells.Pointer.{Pointer}
 use Rattle.chains.specs.declared.chain_table.ChainTable.{ChainTable}
 use Rattle.chains.specs.Walks.{walked}
-use Rattle.links.specs.declared.layout.TheConstants.{ENTRIES, OUT, IN, AGE, ALL, PAIR}
-use Rattle.links.specs.Pairs.{is_between, pair, joins}
+use Rattle.links.specs.declared.layout.TheConstants.{ENTRIES, OUT, IN, AGE, ALL, PAIR, BUCKETS}
+use Rattle.links.specs.Pairs.{is_between, pair, unpair, bucket, joins}
 use Rattle.links.specs.Entries.{live, used}
 use Rattle.links.specs.Table.{columns, edges, Entry, TableOf, IsTable, once}
 
@@ -71,6 +73,10 @@ StaysOnce =
     (once [] ≡ true) × ((xs : List Link) (x : Link) → once xs ≡ true → any (joins x) xs ≡ false → once (xs ++ x ∷ []) ≡ true)
     × ((p : Link → Bool) (xs : List Link) → once xs ≡ true → once (filter p xs) ≡ true)
 
+abbrev pub by_age : (Link → ℕ) → (Link → ℕ) → List ℕ → ℕ → List Pointer
+by_age key label m k =
+    map (λ x. record { held = x.held; label = label (unpair x.label) }) (filter (λ x. key (unpair x.label) == k) (walked ENTRIES AGE m ALL))
+
 unfoldable pub Gives : Type 0
 Gives = (m : List ℕ) → IsTable m
     → ((s : ℕ) → s < CARDS → map (λ x. x.label) (walked ENTRIES OUT m s) ≡ reverse (map (λ y. y.to) (filter (λ y. y.from == s) (edges m))))
@@ -78,6 +84,10 @@ Gives = (m : List ℕ) → IsTable m
     × ((a b : ℕ) → a < CARDS → any (λ x. x.label == b) (walked ENTRIES OUT m a) ≡ any (joins (a ⟶ b)) (edges m))
     × ((a b : ℕ) → b < CARDS → any (λ x. x.label == a) (walked ENTRIES IN m b) ≡ any (joins (a ⟶ b)) (edges m))
     × (map (λ x. x.label) (walked ENTRIES AGE m ALL) ≡ reverse (map pair (edges m)))
+    × ((b : ℕ) → b < BUCKETS → map (λ x. x.label) (walked ENTRIES PAIR m b) ≡ reverse (map pair (filter (λ y. bucket y == b) (edges m))))
+    × ((s : ℕ) → s < CARDS → walked ENTRIES OUT m s ≡ by_age (λ y. y.from) (λ y. y.to) m s)
+    × ((s : ℕ) → s < CARDS → walked ENTRIES IN m s ≡ by_age (λ y. y.to) (λ y. y.from) m s)
+    × ((b : ℕ) → b < BUCKETS → walked ENTRIES PAIR m b ≡ by_age bucket pair m b)
 
 pub record SameTable (m m' : List ℕ) : Type 0 where
   pub is_table : IsTable m → IsTable m'

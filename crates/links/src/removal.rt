@@ -1,8 +1,8 @@
 // Links are taken out of the table.
-ghost use Rattle.std.specs.Prelude.{◌≡◌, [], ◌∷◌};
+ghost use Rattle.std.specs.Prelude.{◌≡◌, ◌≤◌, [], ◌∷◌, Some, IfOk};
 ghost use Rattle.memory.specs.Footprints.{Writes};
 ghost use Rattle.links.specs.Table.{columns};
-ghost use Rattle.links.specs.Entries.{removed, dropped, emptied, removed_all};
+ghost use Rattle.links.specs.Entries.{found, removed, dropped, emptied, removed_all};
 ghost use Rattle.links.specs.Laws.{Removes, RemovesAll};
 
 use crate::entries::give_back;
@@ -12,12 +12,14 @@ use chains::ChainTable;
 use memory::Memory;
 use order::{CARDS, Link, Refusal};
 
-// Takes a link out of the table; says the entry that it had.
-#[tactic(auto, using(crate::proofs::Promises::removing), unfolding(crate::specs::Entries::removed))]
+// Takes a link out of the table; says the entry that it had, as `find` says it.
+#[tactic(auto, using(crate::proofs::Promises::removing), unfolding(crate::specs::Entries::removed, crate::specs::Entries::found))]
 #[inline(always)]
 pub fn remove(memory: &mut Memory, link: Link) -> Result<u64, Refusal>
     ensures is { result ≡ (removed memory.old link).answer }
     ensures after { memory.new ≡ (removed memory.old link).memory }
+    ensures had { IfOk result (λ entry. found memory.old link ≡ Some entry) }
+    ensures below { IfOk result (λ entry. entry ≤ ENTRIES) }
     ensures wrote { Writes columns memory.old memory.new }
     ensures removes { Removes memory.old link result memory.new }
 {
@@ -27,7 +29,7 @@ pub fn remove(memory: &mut Memory, link: Link) -> Result<u64, Refusal>
     OUT.unhook(memory, entry);
     IN.unhook(memory, entry);
     give_back(memory, entry);
-    Ok(entry)
+    Ok(entry.min(ENTRIES))
 }
 
 // Gives back all entries of a slot's chain, which is walked along, and takes their links out of the chains across. A garbage memory may go round.

@@ -63,3 +63,10 @@ next_here m p h = record {
   first = λ r l u. absurd (omega arith);
   from = λ _. omega arith;
 }
+
+-- past the last seat there is none
+pub next_past : (m : List ℕ) (p : ℕ) → SEATS_MOST ≤ p → next_seat m p ≡ SEATS_MOST
+next_past m p h =
+    let x = next_holds m p in
+    let r = x.room in
+    elim (cases_lt (next_seat m p) SEATS_MOST) [ inl l ↦ absurd (let f = x.from l in omega arith) | inr l ↦ omega arith ]

@@ -5,6 +5,7 @@ pub mod Counting
 pub mod Turning
 pub mod Firsts
 pub mod Halving
+pub mod Clearing
 pub mod Resting
 pub mod Steps
 pub mod Seatings

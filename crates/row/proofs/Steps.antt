@@ -65,6 +65,11 @@ unfolding tells
 tells_alike zero p q m out e = refl
 tells_alike (suc N) p q m out e = ap (λ (s : ℕ). tells N m (s + 1) (0 + 1) (set out 0 (cell m IDS (cell m SLOTS s)))) e
 
+pub tells_from : (f p q i : ℕ) (m out : List ℕ) → next_seat m p ≡ next_seat m q → tells f m p i out ≡ tells f m q i out
+unfolding tells
+tells_from zero p q i m out e = refl
+tells_from (suc f) p q i m out e = ap (λ (s : ℕ). tells f m (s + 1) (i + 1) (set out i (cell m IDS (cell m SLOTS s)))) e
+
 -- of no cards nothing is told
 pub told_none : (m : List ℕ) (p n : ℕ) (out : List ℕ) → n ≡ 0 → out ≡ told m p n out
 unfolding told tells

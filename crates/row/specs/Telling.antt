@@ -4,18 +4,17 @@
 --   next_seat m p         the first taken seat from p on; the number of seats, if there is none
 --   selected m n          the taken seat that has n taken ones before it; the number of seats, if there is none
 --   NextIn f p o          o is the first number from p on, among the 64 of its word, that passes the test f, or there is none
---   rest_of m p           the taken seats of the word of p from p on, a bit for each
---   Rest m p r            these are r, or r is 0
+--   Coming m w p r        the set bits of r are the taken seats of the word w, from p on
 --   Between w n a k       of the set bits of the word w, that which has n before it is one of the k from a on
 --   tells f m p i out     `out` after the cards at the next f taken seats from p on were written to it, from i on
 --   tellable m p n out    the row has n cards from the place p on, and `out` room for them
 --   told m p n out        `out` after the cards from the place p on, n of them, were written to its front
 --   told_count m p n out  how many were written
-use Rattle.std.specs.Prelude.{◌≡◌, ℕ, zero, suc, ◌+◌, ◌-◌, ◌*◌, ◌/◌, ◌%◌, ◌^◌, ◌<◌, ◌≤◌, ◌⊎◌, min, Bool, true, false, cond, ◌&&◌, List, Some, None, Option, length, ◌==◌, nat_le, count_ones, slice_set}
+use Rattle.std.specs.Prelude.{◌≡◌, ℕ, zero, suc, ◌+◌, ◌-◌, ◌*◌, ◌/◌, ◌%◌, ◌^◌, ◌<◌, ◌≤◌, min, Bool, true, false, cond, ◌&&◌, List, Some, None, Option, length, ◌==◌, nat_le, count_ones, slice_set}
 use Rattle.order.specs.declared.board.TheConstants.{CARDS}
 use Rattle.memory.specs.Columns.{cell}
-use Rattle.row.specs.declared.layout.TheConstants.{SEATS_MOST, IDS, SLOTS, TAKEN}
-use Rattle.row.specs.Meaning.{count, taken, rank}
+use Rattle.row.specs.declared.layout.TheConstants.{SEATS_MOST, IDS, SLOTS}
+use Rattle.row.specs.Meaning.{count, digit, taken, rank}
 
 unfoldable pub first_from : (ℕ → Bool) → ℕ → ℕ → ℕ
 first_from f zero p = p
@@ -31,11 +30,8 @@ abbrev pub NextIn : (ℕ → Bool) → ℕ → Option ℕ → Type 0
 NextIn f p None = (r : ℕ) → p ≤ r → r < (p / 64 + 1) * 64 → f r ≡ false
 NextIn f p (Some q) = (q < SEATS_MOST) × (f q ≡ true) × (p ≤ q) × ((r : ℕ) → p ≤ r → r < q → f r ≡ false)
 
-abbrev pub rest_of : List ℕ → ℕ → ℕ
-rest_of m p = cell m TAKEN (p / 64) / 2 ^ (p % 64)
-
-abbrev pub Rest : List ℕ → ℕ → ℕ → Type 0
-Rest m p r = (r ≡ 0) ⊎ ((r ≡ rest_of m p) × (cell m TAKEN (p / 64) < 2 ^ 64))
+abbrev pub Coming : List ℕ → ℕ → ℕ → ℕ → Type 0
+Coming m w p r = (r < 2 ^ 64) × ((j : ℕ) → j < 64 → digit r j ≡ (nat_le p (w * 64 + j) && taken m (w * 64 + j)))
 
 abbrev pub Between : ℕ → ℕ → ℕ → ℕ → Type 0
 Between w n a k = (count_ones (w % 2 ^ a) ≤ n) × (n < count_ones (w % 2 ^ (a + k)))

@@ -1,8 +1,8 @@
 // From a place to its seat, and what is told of the row.
-ghost use Rattle.std.specs.Prelude.{◌≡◌, ◌≤◌, ◌<◌, ◌%◌, ◌^◌, ◌+◌, count_ones};
+ghost use Rattle.std.specs.Prelude.{◌≡◌, ◌≤◌, ◌<◌, ◌%◌, ◌^◌, ◌+◌, ◌-◌, ◌*◌, ◌/◌, count_ones, length};
 ghost use Rattle.row.specs.Meaning.{taken};
 ghost use Rattle.row.specs.Laws.{Next, Selects, Tells};
-ghost use Rattle.row.specs.Telling.{Between, NextIn, next_seat, Rest, selected, told, told_count};
+ghost use Rattle.row.specs.Telling.{Between, Coming, NextIn, next_seat, selected, tells, told, told_count};
 
 use crate::cards::len;
 use crate::layout::{IDS, SEATS_MOST, SLOTS, TAKEN, WORDS};
@@ -40,37 +40,13 @@ pub fn next(memory: &Memory, seat: u64) -> u64
     SEATS_MOST
 }
 
-// The taken seats of its word from a seat on, a bit for each; the lowest is the seat's own.
+// The taken seats of its word from a seat on, a bit for each.
+#[tactic(auto, using(crate::proofs::Resting::coming_all))]
+#[inline(always)]
 fn rest_of(memory: &Memory, seat: u64) -> u64
-    ensures { Rest memory.now seat result }
+    ensures { Coming memory.now (seat / 64) seat result }
 {
-    TAKEN.get(memory, seat / 64) >> (seat % 64)
-}
-
-// The first taken seat from this one on, by the bits that are still to come of its word: so the free ones between aren't looked at.
-#[inline(always)]
-fn next_of(memory: &Memory, seat: u64, rest: u64) -> u64
-    requires { Rest memory.now seat rest }
-    ensures is { result ≡ next_seat memory.now seat }
-    ensures below { result ≤ SEATS_MOST }
-{
-    if rest == 0 {
-        return next(memory, seat);
-    }
-    seat + rest.trailing_zeros() as u64
-}
-
-// The bits that are still to come of its word behind the first of these.
-#[inline(always)]
-fn rest_behind(memory: &Memory, seat: u64, rest: u64, found: u64) -> u64
-    requires rest { Rest memory.now seat rest }
-    requires found { (found ≡ next_seat memory.now seat) × (found ≤ SEATS_MOST) }
-    ensures { Rest memory.now (found + 1) result }
-{
-    if rest == 0 {
-        return rest_of(memory, found + 1);
-    }
-    rest >> rest.trailing_zeros() >> 1
+    TAKEN.get(memory, seat / 64) >> (seat % 64) << (seat % 64)
 }
 
 // One step of the search for a set bit of a word: it is among the `span` bits from `at` on, or the `span` behind these.
@@ -130,6 +106,63 @@ fn start_at(memory: &Memory, place: u64) -> u64
     select(memory, place)
 }
 
+// Tells the cards of a word's seats from `seat` on to `out`, from `at` on and below `n`; says up to where. A seat is found by the lowest bit, which is then
+// taken away: so the free ones between aren't looked at, and that it is a seat needn't be tested.
+#[inline(always)]
+fn tell_word(memory: &Memory, seat: u64, at: u64, n: u64, out: &mut [u64]) -> u64
+    requires { (at ≤ n) × (n ≤ length out.old) }
+    ensures long { length out.new ≡ length out.old }
+    ensures within { result ≤ n }
+    ensures on { tells (n - at) memory.now seat at out.old ≡ tells (n - result) memory.now ((seat / 64 + 1) * 64) result out.new }
+{
+    let word = seat / 64;
+    let bits = rest_of(memory, seat);
+    let more = (bits.count_ones() as u64).min(n - at);
+    let mut rest = bits;
+    let mut from = seat;
+    for i in 0..more {
+        let found = word * 64 + rest.trailing_zeros() as u64;
+        let slot = memory[(SLOTS.base + found) as usize];
+        out[(at + i) as usize] = IDS.get(memory, slot);
+        rest &= rest - 1;
+        from = found + 1;
+    }
+    at + more
+}
+
+// Tells the cards at the seats from `seat` on, word by word; says how many, which are fewer than `n` if no more are taken.
+fn tell_words(memory: &Memory, seat: u64, n: u64, out: &mut [u64]) -> u64
+    requires { n ≤ length out.old }
+    ensures long { length out.new ≡ length out.old }
+    ensures within { result ≤ n }
+    ensures on { tells n memory.now seat 0 out.old ≡ tells (n - result) memory.now SEATS_MOST result out.new }
+{
+    let mut told = 0;
+    let mut from = seat;
+    for word in seat / 64..WORDS {
+        told = tell_word(memory, from, told, n, out);
+        if told == n {
+            return n;
+        }
+        from = 64 * (word + 1);
+    }
+    told
+}
+
+// Tells the cards at the next seats from `seat` on to `out`, from `at` on and below `n`. Only a garbage memory has fewer than are asked for.
+#[tactic(auto, using(crate::proofs::Steps::tellings))]
+fn tell_seats(memory: &Memory, seat: u64, at: u64, n: u64, out: &mut [u64])
+    requires { (at ≤ n) × (n ≤ length out.old) }
+    ensures { out.new ≡ tells (n - at) memory.now seat at out.old }
+{
+    let mut seat = seat;
+    for told in at..n {
+        let found = next(memory, seat);
+        out[told as usize] = IDS.get(memory, SLOTS.get(memory, found));
+        seat = found + 1;
+    }
+}
+
 // Tells the cards from `place` on, `n` of them: they are written to the front of `out`. Says how many: `n`, or none if the row or `out` hasn't so many.
 #[tactic(auto, using(crate::proofs::Contracts::tells_so, crate::proofs::Steps::tellings), unfolding(crate::specs::Telling::told, crate::specs::Telling::told_count))]
 pub fn tell(memory: &Memory, place: u64, n: u64, out: &mut [u64]) -> u64
@@ -144,13 +177,7 @@ pub fn tell(memory: &Memory, place: u64, n: u64, out: &mut [u64]) -> u64
     if place > count || n > count - place || n > out.len() as u64 {
         return 0;
     }
-    let mut seat = start_at(memory, place);
-    let mut rest = rest_of(memory, seat);
-    for told in 0..n {
-        let found = next_of(memory, seat, rest);
-        rest = rest_behind(memory, seat, rest, found);
-        out[told as usize] = IDS.get(memory, SLOTS.get(memory, found));
-        seat = found + 1;
-    }
+    let told = tell_words(memory, start_at(memory, place), n, out);
+    tell_seats(memory, SEATS_MOST, told, n, out);
     n
 }

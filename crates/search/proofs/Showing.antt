@@ -1,7 +1,10 @@
 -- What is shown after the two searches met is a way that goes round.
-use Rattle.std.proofs.Common.{◌≡◌, ℕ, ◌-◌, ◌<◌, ◌≤◌, true, List, ◌++◌, map, length, drop, refl, ap, ◌∙◌, arith}
+use Rattle.std.proofs.Common.{◌≡◌, ℕ, ◌+◌, ◌-◌, ◌<◌, ◌≤◌, true, ltb, leb, List, [], ◌∷◌, ◌++◌, map, length, drop, slice_index, refl, ap, ◌∙◌, arith}
+use Rattle.std.proofs.lemmas.Bool.{and_from, lt-ltb, cond_both}
+use Rattle.std.proofs.lemmas.Bool.Decides.{nat_tests}
 use mathlib.Core.List.{reverse_aux-eq}
-use Rattle.search.proofs.Common.{CARDS, Link, place, ◌⟶◌, linked, cell, marked, IDS, SEATS, row_of, used, VIA, FORE, HIND, slot_board, Ready, Trailed}
+use Rattle.search.proofs.Common.{CARDS, Link, place, ◌⟶◌, linked, marked, IDS, SEATS, row_of, used, VIA, FORE, HIND, slot_board, Ready, Trailed, every}
+use Rattle.memory.specs.Columns.{cell}
 use Rattle.order.proofs.Places.{place_below}
 use Rattle.order.proofs.Climbs.{fine_parts, link_before}
 use Rattle.row.proofs.Rows.{seated, length_row, has_is}
@@ -63,3 +66,19 @@ unfolding ShowsWay
 shows_so m' l j out n out' s m R T h =
     let r = shows_way m m' l.from l.to j.from j.to out R T h in
     (r, record { count = s.count ∙ ap length r.is; out = s.out ∙ ap (λ ks. ks ++ drop n out) r.is })
+
+-- what is shown are numbers of the memory
+every_map : (n : ℕ) (f : ℕ → ℕ) → ((s : ℕ) → f s < n) → (xs : List ℕ) → every (λ v. ltb v n) (map f xs) ≡ true
+unfolding every
+every_map n f h [] = refl
+every_map n f h (x ∷ xs) = and_from _ _ (lt-ltb (f x) n (h x)) (every_map n f h xs)
+
+cell_below : (m : List ℕ) (n : ℕ) → ((i : ℕ) → slice_index m i < n) → (s : ℕ) → cell m IDS s < n
+unfolding cell
+cell_below m n h s = let x = h (IDS.base + s) in let y = h 0 in grind (arith, nat_tests)
+
+pub shown_below : (m : List ℕ) (n : ℕ) (l j : Link) (out : List ℕ) → ((i : ℕ) → slice_index m i < n) → every (λ v. ltb v n) (shown m l j out) ≡ true
+unfolding shown every
+shown_below m n l j out h =
+    cond_both (leb CARDS (length out)) (map (cell m IDS) (way (cell m VIA) CARDS l j)) [] (λ (xs : List ℕ). every (λ v. ltb v n) xs ≡ true)
+    (λ _. every_map n (cell m IDS) (cell_below m n h) (way (cell m VIA) CARDS l j)) (λ _. refl)

@@ -7,6 +7,7 @@ ghost use Rattle.memory.specs.Columns.{cell};
 ghost use Rattle.memory.specs.Footprints.{Writes};
 ghost use Rattle.search.specs.Columns.{sets};
 ghost use Rattle.search.specs.Settle.{forgotten};
+ghost use Rattle.search.specs.SettleLaws.{Forgets};
 ghost use Rattle.search.specs.Way.{trail, way, over, shown, ShownSo};
 ghost use Rattle.search.specs.WayLaws.{ShowsWay};
 
@@ -62,6 +63,7 @@ pub fn show_and_forget(memory: &mut Memory, link: Link, joint: Link, out: &mut [
     ensures way { ShownSo (shown memory.old link joint out.old) out.old result out.new }
     ensures after { memory.new ≡ forgotten memory.old }
     ensures law { ShowsWay memory.old link joint out.old result out.new }
+    ensures forgets { Forgets memory.old memory.new }
     ensures wrote { Writes sets memory.old memory.new }
 {
     let count = show(memory, link, joint, out);
