@@ -14,7 +14,7 @@ pub fn columns_apart_stands()
     ensures lie { all_lie MEMORY all_columns ≡ true }
 {}
 
-// What is put aside is the slots of the places that were asked for, once the row is packed.
+// What is put aside is the slots at the seats that were asked for; once the row is packed, these are the places.
 pub fn saves_stands() -> u8
     ensures { Saves }
 {

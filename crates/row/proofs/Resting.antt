@@ -1,7 +1,7 @@
 -- The seats of a word that are still to come: the first of them, what is still to come behind it, and when none is.
 use Rattle.std.proofs.Common.{◌≡◌, ℕ, ◌+◌, ◌-◌, ◌*◌, ◌/◌, ◌%◌, ◌^◌, ◌<◌, ◌≤◌, true, false, leb, eqb, List, slice_index, add-zero, sym, ap, ◌∙◌, inl, inr, w64, arith}
 use lib.Bits.{bit_and}
-use lib.Count.{count_trailing_zeros, ones}
+use lib.Count.{count_trailing_zeros}
 use Rattle.std.specs.Int.{bit_at}
 use Rattle.std.proofs.lemmas.Nat.{and_le_l, shr-shr, pow_pos, mod_below}
 use Rattle.std.proofs.lemmas.Nat.Bits.{bit_at-trailing_zeros, bit_at_cat_low, bit_at_cat_high, bit_at-zero}
@@ -17,7 +17,7 @@ use Rattle.row.specs.Telling.{next_seat, selected, Coming}
 use Rattle.row.proofs.Along.{amount_gap}
 use Rattle.row.proofs.Listing.{amount_none}
 use Rattle.row.proofs.Counting.{taken_at}
-use Rattle.row.proofs.Clearing.{digit_cleared, some_ones}
+use Rattle.row.proofs.Clearing.{digit_cleared}
 use Rattle.row.proofs.Firsts.{next_is, next_holds, next_here}
 use Rattle.row.proofs.Halving.{selected_is, selected_none}
 use Rattle.row.proofs.Words.{taken_low}
@@ -155,7 +155,3 @@ first_same m p e = sym (ap (λ (k : ℕ). next_seat m (selected m k)) e ∙ ap (
 pub slot_here : (m : List ℕ) (s : ℕ) → s < SEATS_MOST → cell m SLOTS s ≡ slice_index m (SLOTS.base + s)
 unfolding cell
 slot_here m s l = grind (arith, nat_tests)
-
--- as long as not so many are told as there are bits, there is a next seat
-pub still_low : (m : List ℕ) (w p r i n : ℕ) → Coming m w p r → i + ones r ≡ n → i < n → w * 64 + count_trailing_zeros 64 r < SEATS_MOST
-still_low m w p r i n C e l = coming_low m w p r C (some_ones r (omega arith))

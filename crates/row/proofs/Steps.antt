@@ -1,13 +1,14 @@
 -- The steps of the loops whose models have fuel: what is left of it, one step on, and at the end.
-use Rattle.std.proofs.Common.{◌≡◌, ℕ, ◌+◌, ◌-◌, ◌<◌, ◌≤◌, Bool, true, false, cond, List, set, Some, None, ap, ◌∙◌, refl, inl, inr, zero, suc}
+use Rattle.std.proofs.Common.{◌≡◌, ℕ, ◌+◌, ◌-◌, ◌<◌, ◌≤◌, Bool, true, false, cond, List, set, Some, None, ap, ◌∙◌, sym, refl, inl, inr, zero, suc, arith}
 use Rattle.std.proofs.lemmas.Bool.{eq-eqb, ne_eqb, cases_Bool}
 use Rattle.memory.specs.Columns.{cell, written}
 use Rattle.memory.proofs.Fuel.{fuel_step, fuel_end}
-use Rattle.row.specs.declared.layout.TheConstants.{HEADS, ENDING, IDS, SLOTS}
+use Rattle.row.specs.declared.layout.TheConstants.{SEATS_MOST, HEADS, ENDING, IDS, SLOTS}
 use Rattle.row.specs.Lookup.{entry, followed, sought}
 use Rattle.row.specs.Meaning.{taken}
 use Rattle.row.specs.Moves.{drawn, packed_from}
 use Rattle.row.specs.Telling.{next_seat, tells, tellable, told, told_count}
+use Rattle.row.proofs.Firsts.{next_past}
 
 -- a card's entry is sought
 module _ (N i p k : ℕ) (m : List ℕ) where
@@ -60,15 +61,18 @@ module _ (N i p : ℕ) (m out : List ℕ) where
   tells_on h = fuel_step (λ f. tells f m p i out) N i h
 
 -- from seats behind which the same one is next
-pub tells_alike : (N p q : ℕ) (m out : List ℕ) → next_seat m p ≡ next_seat m q → tells N m p 0 out ≡ tells N m q 0 out
-unfolding tells
-tells_alike zero p q m out e = refl
-tells_alike (suc N) p q m out e = ap (λ (s : ℕ). tells N m (s + 1) (0 + 1) (set out 0 (cell m IDS (cell m SLOTS s)))) e
-
 pub tells_from : (f p q i : ℕ) (m out : List ℕ) → next_seat m p ≡ next_seat m q → tells f m p i out ≡ tells f m q i out
 unfolding tells
 tells_from zero p q i m out e = refl
 tells_from (suc f) p q i m out e = ap (λ (s : ℕ). tells f m (s + 1) (i + 1) (set out i (cell m IDS (cell m SLOTS s)))) e
+
+-- past the last taken seat
+pub tells_past : (N i : ℕ) (m out : List ℕ) → i < N →
+    tells (N - i) m SEATS_MOST i out ≡ tells (N - (i + 1)) m SEATS_MOST (i + 1) (set out i (cell m IDS (cell m SLOTS SEATS_MOST)))
+tells_past N i m out h =
+    let e = next_past m SEATS_MOST (omega arith) in
+    let f = next_past m (SEATS_MOST + 1) (omega arith) in
+    tells_on N i SEATS_MOST m out h ∙ rw e (tells_from (N - (i + 1)) (SEATS_MOST + 1) SEATS_MOST (i + 1) m _ (f ∙ sym e))
 
 -- of no cards nothing is told
 pub told_none : (m : List ℕ) (p n : ℕ) (out : List ℕ) → n ≡ 0 → out ≡ told m p n out
@@ -79,4 +83,4 @@ pub none_told : (m : List ℕ) (p n : ℕ) (out : List ℕ) → n ≡ 0 → 0 �
 unfolding told_count
 none_told m p n out e = rw e (elim (cases_Bool (tellable m p 0 out)) [ inl b ↦ rw b refl | inr b ↦ rw b refl ])
 
-pub ruleset tellings = (tells_end, tells_on, tells_alike, told_none, none_told)
+pub ruleset tellings = (tells_end, tells_on, tells_from, told_none, none_told)

@@ -1,5 +1,5 @@
 // From a place to its seat, and what is told of the row.
-ghost use Rattle.std.specs.Prelude.{◌≡◌, ◌≤◌, ◌<◌, ◌%◌, ◌^◌, ◌+◌, ◌-◌, ◌*◌, ◌/◌, count_ones, length};
+ghost use Rattle.std.specs.Prelude.{◌≡◌, ◌≤◌, ◌<◌, ◌%◌, ◌+◌, ◌-◌, ◌*◌, ◌/◌, count_ones, length};
 ghost use Rattle.row.specs.Meaning.{taken};
 ghost use Rattle.row.specs.Laws.{Next, Selects, Tells};
 ghost use Rattle.row.specs.Telling.{Between, Coming, NextIn, next_seat, selected, tells, told, told_count};
@@ -107,7 +107,8 @@ fn start_at(memory: &Memory, place: u64) -> u64
 }
 
 // Tells the cards of a word's seats from `seat` on to `out`, from `at` on and below `n`; says up to where. A seat is found by the lowest bit, which is then
-// taken away: so the free ones between aren't looked at, and that it is a seat needn't be tested.
+// taken away: so the free ones between aren't looked at, and that it is a seat needn't be tested. `from`, the seat behind the last one told, is read by the
+// loop's invariant alone.
 #[inline(always)]
 fn tell_word(memory: &Memory, seat: u64, at: u64, n: u64, out: &mut [u64]) -> u64
     requires { (at ≤ n) × (n ≤ length out.old) }
@@ -149,17 +150,16 @@ fn tell_words(memory: &Memory, seat: u64, n: u64, out: &mut [u64]) -> u64
     told
 }
 
-// Tells the cards at the next seats from `seat` on to `out`, from `at` on and below `n`. Only a garbage memory has fewer than are asked for.
+// What is told past the last taken seat, from `at` on and below `n`: the same at each place. Only of a garbage memory, which counts more cards than it has
+// taken seats, is anything left to be told here.
 #[tactic(auto, using(crate::proofs::Steps::tellings))]
-fn tell_seats(memory: &Memory, seat: u64, at: u64, n: u64, out: &mut [u64])
+fn tell_past(memory: &Memory, at: u64, n: u64, out: &mut [u64])
     requires { (at ≤ n) × (n ≤ length out.old) }
-    ensures { out.new ≡ tells (n - at) memory.now seat at out.old }
+    ensures { out.new ≡ tells (n - at) memory.now SEATS_MOST at out.old }
 {
-    let mut seat = seat;
+    let none = IDS.get(memory, SLOTS.get(memory, SEATS_MOST));
     for told in at..n {
-        let found = next(memory, seat);
-        out[told as usize] = IDS.get(memory, SLOTS.get(memory, found));
-        seat = found + 1;
+        out[told as usize] = none;
     }
 }
 
@@ -178,6 +178,6 @@ pub fn tell(memory: &Memory, place: u64, n: u64, out: &mut [u64]) -> u64
         return 0;
     }
     let told = tell_words(memory, start_at(memory, place), n, out);
-    tell_seats(memory, SEATS_MOST, told, n, out);
+    tell_past(memory, told, n, out);
     n
 }

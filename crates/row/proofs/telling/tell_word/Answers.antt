@@ -5,34 +5,22 @@ use Rattle.memory.specs.Columns.{cell}
 use Rattle.row.specs.declared.layout.TheConstants.{IDS, SLOTS}
 use Rattle.row.specs.Telling.{next_seat}
 use Rattle.row.proofs.Clearing.{some_ones, no_ones, ones_cleared}
-use Rattle.row.proofs.Resting.{slot_here, still_low, lowest, coming_low, coming_first, coming_behind, coming_none}
+use Rattle.row.proofs.Resting.{slot_here, lowest, coming_low, coming_first, coming_behind, coming_none}
 use Rattle.row.proofs.Steps.{tells_on, tells_end, tells_from}
 use Rattle.row.proofs.telling.tell_word.Goals as goal
 
-pub overflow_add-found : goal.overflow_add-found
-overflow_add-found c =
-    let l = c.loop-i in
-    let b = still_low c.args.memory.now (c.args.seat / 64) l.from l.rest l.i _ l.invariant.coming l.invariant.left (omega arith) in omega arith
-
-pub overflow_add-slot : goal.overflow_add-slot
-overflow_add-slot c =
-    let l = c.loop-i in
-    let b = still_low c.args.memory.now (c.args.seat / 64) l.from l.rest l.i _ l.invariant.coming l.invariant.left (omega arith) in omega arith
-
-pub offset_bounds-memory-found : goal.offset_bounds-memory-found
-offset_bounds-memory-found c =
-    let l = c.loop-i in
-    let b = still_low c.args.memory.now (c.args.seat / 64) l.from l.rest l.i _ l.invariant.coming l.invariant.left (omega arith) in omega arith
-
-pub bounds-memory-found : goal.bounds-memory-found
-bounds-memory-found c =
-    let l = c.loop-i in
-    let b = still_low c.args.memory.now (c.args.seat / 64) l.from l.rest l.i _ l.invariant.coming l.invariant.left (omega arith) in omega arith
-
-pub overflow_add-from : goal.overflow_add-from
-overflow_add-from c =
-    let l = c.loop-i in
-    let b = still_low c.args.memory.now (c.args.seat / 64) l.from l.rest l.i _ l.invariant.coming l.invariant.left (omega arith) in omega arith
+pub loop-i-init : goal.loop-i-init
+loop-i-init c =
+    let coming = c.rest_of-bits.ensures in
+    record {
+      long = search rules;
+      same = search rules;
+      coming = coming;
+      left = search rules;
+      room = λ l. coming_low c.args.memory.now (c.args.seat / 64) c.args.seat _ coming (some_ones _ (omega arith));
+      low = omega arith;
+      high = omega arith;
+    }
 
 pub loop-i-preserved : goal.loop-i-preserved
 loop-i-preserved c =
@@ -42,17 +30,21 @@ loop-i-preserved c =
     let r = c.loop-i.rest in
     let p = c.loop-i.from in
     let at = c.args.at + c.loop-i.i in
-    let some : 0 < r = some_ones r (let l = i.left in omega arith) in
+    let left = i.left in
+    let some : 0 < r = some_ones r (omega arith) in
     let low = coming_low m w p r i.coming some in
     let in_word = (lowest m w p r i.coming some).0 in
     let found : w * 64 + count_trailing_zeros 64 r ≡ next_seat m p = coming_first m w p r i.coming some i.low in
     let card : c.get.result ≡ cell m IDS (cell m SLOTS (next_seat m p)) = c.get.ensures ∙ ap (cell m IDS) (sym (slot_here m _ low) ∙ ap (cell m SLOTS) found) in
     let next : c.args.at + (c.loop-i.i + 1) ≡ at + 1 = omega arith in
+    let behind = coming_behind m w p r i.coming some in
+    let fewer = ones_cleared 64 r some i.coming.0 in
     record {
       long = search rules;
       same = rw (next, card, found) (sym (tells_on c.args.n at p m c.loop-i.out (omega arith)) ∙ i.same);
-      coming = coming_behind m w p r i.coming some;
-      left = let o = ones_cleared 64 r some i.coming.0 in let l = i.left in omega arith;
+      coming = behind;
+      left = omega arith;
+      room = λ l. coming_low m w _ _ behind (some_ones _ (omega arith));
       low = omega arith;
       high = omega arith;
     }
